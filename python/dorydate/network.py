@@ -384,8 +384,6 @@ def tables(document: Mapping[str, Any], name: str) -> list[dict[str, Any]]:
     listed = [it["foreign"] for it in found if "foreign" in it]
     if not all(isinstance(it, list) for it in listed):
         raise BadNetwork(TOPOLOGIES["foreign list"])
-    if listed and not any(listed):
-        raise BadNetwork(TOPOLOGIES["foreign none"])
     return found
 
 

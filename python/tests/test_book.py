@@ -47,6 +47,20 @@ class OfBooks(unittest.TestCase):
         self.assertIn("message 1 of the life of line 13", clauses["promise.arrived.answered.arrived"])
         self.assertEqual(said(11), clauses)
 
+    def test_the_two_lives_of_a_message(self) -> None:
+        """A message of data went between a sending life that counts it and a receiving one that matches that."""
+        both = "It went from the life of line 14 to that of line 13, which matches it."
+        self.assertEqual(said(10)["promise.between"], both)
+        self.assertNotIn("promise.between", said(1))
+        taker = "life 0/1 16 0/2 33 0 4 receive 1 16 1 100 0 0 open 4849\n", ""
+        none = "No receiving life matches the life of line 13, which counts it."
+        self.assertEqual(said(10, taker, ("handed 0 -\n", ""))["promise.between"], none)
+        giver = "life 0/2 33 0/1 16 3 1 send 1 16 0 0 0 0 open 4849\n", ""
+        self.assertEqual(
+            said(10, giver, ("handed 24 484950\n", ""))["promise.between"],
+            "No sending life counts it.",
+        )
+
     def test_a_receiver_that_has_closed(self) -> None:
         changes = ("receive 1 16 1 100 0 0 open 4849", "receive 0 0 1 100 0 0 open -")
         self.assertIn("a user of its host has closed it", said(10, changes)["promise.arrived.answered.arrived"])

@@ -261,7 +261,7 @@ class OfLogs(unittest.TestCase):
         at = next(at for at, it in enumerate(lines) if it.startswith("broken"))
         self.assertRegex(lines[at], "^broken promise.safe.grants.taken +SafeGrants.taken$")
         self.assertIn("         16 is more than 15", lines[at:])
-        self.assertIn("a log has no notices", lines[2])
+        self.assertIn("a log has no notices", lines[3])
 
     def test_raw(self) -> None:
         self.assertIn("The log has no lives.", said_of(read_log(b"end\n"))[0][-1])

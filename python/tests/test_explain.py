@@ -17,7 +17,7 @@ from dorydate.where import found
 from dorydate.explain.telling import said_beside, telling
 from dorydate.explain.topology import names_of, network_by
 from dorydate.model.script import read_event
-from dorydate.model.topology import Topology
+from dorydate.model.topology import Topology, spelled_input
 from dorydate.sentences.texts import raw_text_in_words, text_in_words
 from workshop.checks.explain_faults import BAD_LINES, BAD_LINES_OF_WORLDS, BAD_TOPOLOGIES, GOOD, TOO_LONG
 from workshop.checks.explain_rows import TEXTS
@@ -106,13 +106,13 @@ class Copies(unittest.TestCase):
 
 
 class Programs(unittest.TestCase):
-    def test_a_calm_that_waits_for_a_stranger_is_stopped_and_named(self) -> None:
-        calm = 'carrier = "plain"\n[[imp]]\nid = 1\nhosts = 2\nforeign = [1]\n%\ncontact 0/1 1/1\ncalm 4294967295\n'
+    def test_a_calm_without_a_place_for_a_message_is_stopped_and_named(self) -> None:
+        network = Topology("subnet", False, [(1, 1), (2, 1)], [(1, 2)], [(1, [0]), (2, [0])])
+        messages = [f"out 0/2 0/1 {link} 0 -" for link in range(17)]
         with mock.patch("dorydate.explain.runs.SECONDS", 1.0):
-            with self.assertRaisesRegex(CannotTell, "1.0 seconds; all rounds of `calm 4294967295` pass while "):
-                ran(found(), calm.encode())
-            resting = calm.replace("contact 0/1 1/1\n", "").encode()
-            self.assertEqual(ran(found(), resting).status, 0)
+            with self.assertRaisesRegex(CannotTell, "1.0 seconds; all rounds of `calm 4294967295` may pass while "):
+                ran(found(), spelled_input(network, ["calm 3", *messages, "calm 4294967295"]))
+            self.assertEqual(ran(found(), spelled_input(network, ["calm 3", *messages[:16], "calm 4294967295"])).status, 0)
 
     def test_the_variable_names_another_program(self) -> None:
         found.cache_clear()

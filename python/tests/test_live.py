@@ -29,6 +29,10 @@ class Networks(unittest.TestCase):
         self.assertEqual(network.strangers(), [Host(0, 1), Host(1, 2)])
         self.assertEqual(Network.read(network.toml()), network)
 
+    def test_a_list_of_no_strangers_names_none(self) -> None:
+        for raw in (False, True):
+            self.assertEqual(Network.read(topology("[]", raw)).strangers(), [])
+
     def test_what_names_no_strangers_is_refused_by_its_name(self) -> None:
         rows: list[tuple[Callable[[], object], str]] = [
             (lambda: Network.read(topology("[3]")), "IMP 7 names a host that it hasn't: it has 3, numbered from 0."),
@@ -36,7 +40,6 @@ class Networks(unittest.TestCase):
             (lambda: Network.read(topology("[1, 1]")), "`foreign` of IMP 7 names a host twice."),
             (lambda: Network.read(topology("[2, 0]")), "`foreign` of IMP 7 is by rising number."),
             (lambda: Network.read(topology("[0]", raw=True)), "In a network with `raw = true` no host runs a program"),
-            (lambda: Network.read(topology("[]")), "No `foreign` names a host."),
             (lambda: Network.read(topology("1")), "`foreign` is a list of whole numbers"),
             (lambda: Network.read(topology("[true]")), "`foreign` is a list of whole numbers"),
             (lambda: Network.joined("A-B", foreign=["3 at B"]), "`foreign` of IMP 2 names a host that it hasn't"),

@@ -36,6 +36,23 @@ class Worlds(unittest.TestCase):
                 self.assertEqual(reading.answers("rests", ["true"]), ["false"])
                 self.assertEqual(reading.answers("silent", []), ["false"])
 
+    def test_rest_while_something_waits(self) -> None:
+        reading, _ = open_world("world 1:3 foreign 1/1 2/1")
+        for event, rests in (
+            ("contact 0/1 1/1", "false"),
+            ("offer 0/1", "true"),
+            ("out 1/1 2/1 0 48 00080001000C", "true"),
+            ("out 1/1 0/1 0 48 00080001000C", "false"),
+            ("take 0/1", "true"),  # the link of its RRP is busy
+            ("take 1/1", "true"),  # the RFNM that waited for it
+            ("take 1/1", "false"),  # the contact, so that its RFNM waits for 0/1
+            ("take 0/1", "false"),  # it has the RRP to say
+            ("offer 0/1", "true"),
+        ):
+            with self.subTest(event):
+                reading.answers(event, [])
+                self.assertEqual(reading.answers("rests", [rests]), [rests])
+
     def test_a_turn_of_a_stranger(self) -> None:
         reading, _ = open_world("world 1:1 2:1 foreign 0/2")
         for event in ("take 0/2", "offer 0/2", "contact 0/2 0/1", "out 0/2 0/1 5 0 -"):

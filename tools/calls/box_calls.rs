@@ -2,7 +2,7 @@
 //!
 //! A block begins with `boxes` and the hosts. What happens is written as in a script; `waiting HOST` counts the messages and the answers that wait,
 //! `message HOST PLACE` and `answer HOST PLACE` are those at a place, `down PLACE` is a host that is down, `crossings` counts what is on the
-//! log, and `rests` tells whether the network rests. Answers are `ok`, what a host takes, or `refused` and why.
+//! log, and `rests HOSTS` tells whether the network rests beside these hosts. Answers are `ok`, what a host takes, or `refused` and why.
 
 use crate::Layer;
 use crate::words::{Words, spell_bits};
@@ -12,11 +12,7 @@ use std::alloc::Global;
 
 /// The boxes of the hosts that a block's first row names.
 pub fn opened(alloc: Global, mut words: Words<'_>) -> Option<PlainBoxes> {
-    let mut hosts = Vec::new(alloc);
-    while !words.rest.is_empty() {
-        hosts.push(words.host()?).ok()?;
-    }
-    Some(PlainBoxes::new(alloc, hosts))
+    Some(PlainBoxes::new(alloc, words.hosts(alloc)?))
 }
 
 impl Layer for PlainBoxes {
@@ -47,7 +43,11 @@ impl Layer for PlainBoxes {
             },
             "hosts" => write!(answer, "{}", self.hosts().len()).ok(),
             "crossings" => write!(answer, "{}", self.log().len()).ok(),
-            "rests" => write!(answer, "{}", self.rests() && self.is_empty()).ok(),
+            "rests" => {
+                let beside = words.hosts(alloc)?;
+                let rests = self.rests_beside(&beside);
+                write!(answer, "{}", rests && (!beside.is_empty() || self.is_empty())).ok()
+            }
             _ => match happened(alloc, self, name, words)? {
                 Ok(()) => answer.push_str("ok").ok(),
                 Err(fault) => write!(answer, "refused {fault}").ok(),

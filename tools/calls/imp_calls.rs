@@ -84,6 +84,7 @@ fn called(alloc: Global, imp: &mut Imp, name: &str, mut words: Words<'_>) -> Opt
         }
         "resend" => imp.resend(),
         "route" => imp.route(),
+        "claim" => imp.claim(),
         "end_down" => imp.end_down(words.octet()?),
         "end_up" => imp.end_up(words.octet()?),
         "give_up" => imp.give_up(words.flow()?),

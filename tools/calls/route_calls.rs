@@ -1,7 +1,7 @@
 //! Calls on the table of distances of one IMP.
 //!
-//! A block begins with `routes IMP PORTS`, where nothing is heard. `ports` counts them; `hear PORT DISTANCES` and `lost PORT` change the table. Printed are its distances
-//! to IMPs 1 to 63, as octets, and then the ports of the next lines to IMPs, as `IMP:PORT` or `FIRST-LAST:PORT`. `vector OCTETS` tells whether
+//! A block begins with `routes IMP PORTS`, where nothing is heard. `ports` counts them; `hear PORT DISTANCES`, `lost PORT` and `claim` change the table. Printed is what
+//! it announces, its distances to IMPs 1 to 63, as octets, and then the ports of the next lines to IMPs, as `IMP:PORT` or `FIRST-LAST:PORT`. `vector OCTETS` tells whether
 //! these are distances, `same OCTETS OCTETS` and `equal OCTETS OCTETS` whether two such lists are the same.
 
 use crate::Layer;
@@ -33,6 +33,7 @@ impl Layer for RouteTable {
                 }
                 self.lost(port);
             }
+            "claim" => self.claim(),
             "look" => {}
             "ports" => return write!(answer, "{}", self.heard().len()).ok(),
             "vector" => return match vector(alloc, &mut words) {
@@ -56,7 +57,7 @@ fn vector(alloc: Global, words: &mut Words<'_>) -> Option<Vector> {
     Vector::from_slice(&words.octets(alloc)?)
 }
 
-/// What a table says: its distances, and its next lines, those of IMPs in a row over the same port together.
+/// What a table says: the distances that it announces, and its next lines, those of IMPs in a row over the same port together.
 pub fn tell_table(alloc: Global, answer: &mut String, table: &RouteTable) -> Option<()> {
     spell_octets(alloc, answer, table.vector().distances())?;
     let last = MOST_IMPS as u8 + 1;

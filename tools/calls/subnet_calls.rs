@@ -3,7 +3,7 @@
 //! A block begins with `subnet`, the IMPs, as `IMP:HOSTS` by rising number, `/`, and the lines, as `IMP-IMP`. What happens is
 //! written as in a script; `rounds COUNT` are quiet rounds in which no host takes. Answers are `ok`, what a host took or `refused FAULT`, and then
 //! each crossing as the simulator prints it; within `calm` refusals are not printed. `alive FLOW NUMBER` asks whether that message or a packet of it is alive,
-//! `rests` whether the network is known to rest, `hosts`, `lines` and `number IMP` what it has. `check subnet` compares all this with an independent model of the rules.
+//! `rests HOSTS` whether the network is known to rest beside these hosts, `hosts`, `lines` and `number IMP` what it has. `check subnet` compares all this with an independent model of the rules.
 
 use crate::Layer;
 use crate::imp_calls::{refused, spell_given};
@@ -25,7 +25,7 @@ impl Layer for Subnet {
                 let flow = words.flow()?;
                 write!(answer, "{}", self.alive(&flow, words.message_number()?)).ok()?;
             }
-            "rests" => write!(answer, "{}", self.rests()).ok()?,
+            "rests" => write!(answer, "{}", self.rests_beside(&words.hosts(alloc)?)).ok()?,
             "hosts" => spell_hosts(self, answer)?,
             "lines" => write!(answer, "{}", self.line_count()).ok()?,
             "number" => match self.imp_number(words.octet()?) {
@@ -158,6 +158,7 @@ fn event(name: &str, mut words: Words<'_>) -> Option<NetEvent> {
         "garble" => NetEvent::Garble { line: words.number()?, direction: words.direction()?, frame: words.number()? },
         "resend" => NetEvent::Resend(words.imp()?),
         "route" => NetEvent::Route(words.imp()?),
+        "claim" => NetEvent::Claim(words.imp()?),
         "enddown" => NetEvent::EndDown { imp: words.imp()?, line: words.number()? },
         "endup" => NetEvent::EndUp { imp: words.imp()?, line: words.number()? },
         "impdown" => NetEvent::ImpDown(words.imp()?),

@@ -68,6 +68,15 @@ impl<'a> Words<'a> {
         HostAddr::new(host.parse::<u8>().ok()?, imp.parse::<u8>().ok()?)
     }
 
+    /// All words that are left, as hosts.
+    pub fn hosts(&mut self, alloc: Global) -> Option<Vec<HostAddr>> {
+        let mut hosts = Vec::new(alloc);
+        while !self.rest.is_empty() {
+            hosts.push(self.host()?).ok()?;
+        }
+        Some(hosts)
+    }
+
     /// The next three words as a flow.
     pub fn flow(&mut self) -> Option<Flow> {
         Some(Flow {

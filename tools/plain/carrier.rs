@@ -18,6 +18,7 @@ pub enum NetEvent {
     Drop(u32, Way, u32),
     Resend(u8),
     Route(u8),
+    Claim(u8),
     ImpDown(u8),
     ImpUp(u8),
     EndDown(u8, u32),

@@ -127,6 +127,8 @@ pub struct Imp {
     routes: [Option<u8>; MOST_IMPS as usize + 1],
     /// The distances that this IMP tells.
     told: Rc<Distances>,
+    /// Whether it claims to be at distance 0 from every IMP.
+    claims: bool,
     store: VecDeque<Rc<Packet>>,
     /// How many packets are in the store and in channels.
     stored: usize,
@@ -161,6 +163,7 @@ impl Imp {
             ports: (0..ports).map(|_| Port::default()).collect(),
             routes: [None; MOST_IMPS as usize + 1],
             told: Rc::new([INFINITE; MOST_IMPS as usize + 1]),
+            claims: false,
             store: VecDeque::new(),
             stored: 0,
             slots: Vec::new(),
@@ -190,6 +193,9 @@ impl Imp {
         }
         told[self.number as usize] = 0;
         self.routes[self.number as usize] = None;
+        if self.claims {
+            told[1..].fill(0);
+        }
         self.told = Rc::new(told);
     }
 
@@ -683,6 +689,12 @@ impl Imp {
         }
     }
 
+    /// Claims from now on to be at distance 0 from every IMP.
+    pub fn claim(&mut self) {
+        self.claims = true;
+        self.learn();
+    }
+
     /// Tells the neighbours the distances of this IMP.
     pub fn tell_routes(&mut self) {
         for (place, port) in self.ports.iter().enumerate() {
@@ -735,6 +747,7 @@ fn text_of(body: Vec<u8>) -> Option<Bits> {
 
 impl Spell for Imp {
     fn spell(&self, to: &mut Vec<u8>) {
+        self.claims.spell(to);
         for host in &self.hosts {
             host.is_up.spell(to);
             host.answers.spell(to);

@@ -226,6 +226,7 @@ fn read_net(name: &[u8], words: &mut Words) -> Result<Option<NetEvent>, BadLine>
         b"drop" | b"garble" => NetEvent::Drop(words.number()?, words.way()?, words.number()?),
         b"resend" => NetEvent::Resend(words.imp()?),
         b"route" => NetEvent::Route(words.imp()?),
+        b"claim" => NetEvent::Claim(words.imp()?),
         b"impdown" => NetEvent::ImpDown(words.imp()?),
         b"impup" => NetEvent::ImpUp(words.imp()?),
         b"enddown" => NetEvent::EndDown(words.imp()?, words.number()?),

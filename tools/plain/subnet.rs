@@ -356,6 +356,13 @@ impl Carrier for Subnet {
                 self.check_site(number)?;
                 self.at(number, |imp| Ok(imp.tell_routes()))
             }
+            NetEvent::Claim(number) => {
+                self.check_site(number)?;
+                self.at(number, |imp| {
+                    imp.claim();
+                    Ok(())
+                })
+            }
             NetEvent::EndDown(number, line) => {
                 let port = self.port_of(number, line)?;
                 self.at(number, |imp| imp.end_down(port))

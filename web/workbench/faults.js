@@ -65,7 +65,7 @@ function isRaw(input) {
  * @param {string} line
  */
 function readsRaw(input, line) {
-    const isAmong = input.head.some((it) => /^\s*foreign\s*=/.test(it));
+    const isAmong = input.head.some((it) => /^\s*foreign\s*=(?!\s*\[\s*\])/.test(it));
     return isRaw(input) || (isAmong && line.startsWith("out "));
 }
 
@@ -316,14 +316,14 @@ function wrongNetwork({ values, places }) {
 function wrongStrangers(imps, raw) {
     const named = imps.filter((it) => "foreign" in it);
     for (const table of named) {
-        const why = raw ? "foreign raw" : wrongNumbers(table.foreign, table.hosts);
+        const isNone = Array.isArray(table.foreign) && !table.foreign.length;
+        const why = raw && !isNone ? "foreign raw" : wrongNumbers(table.foreign, table.hosts);
         if (why) {
             const text = filled(TOPOLOGIES[why], { imp: table.id, hosts: table.hosts });
             return { text, key: "foreign", table };
         }
     }
-    if (!named.length || named.some((it) => it.foreign.length)) return null;
-    return { text: TOPOLOGIES["foreign none"], key: "foreign", table: named[0] };
+    return null;
 }
 
 /**

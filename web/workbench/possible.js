@@ -133,6 +133,7 @@ function ofImp(state, imp) {
         ...(linesOf(network, imp).length ? [one("sends again", `resend ${imp}`)] : []),
         ...[...others].map((other) => one(`forgets the numbers of ${impName(network, other)}`, `forget ${imp} ${other}`)),
         ...it.slots.map(([piece]) => one(`throws pieces of ${messageName(network, piece.flow)} away`, `abandon ${piece.flow}`)),
+        ...(linesOf(network, imp).length ? [one("claims to be nearest to every IMP", `claim ${imp}`)] : []),
         one("stops", `impdown ${imp}`),
     ];
 }

@@ -386,6 +386,29 @@ function frees({ kind, flow: its }, flow) {
 }
 
 /**
+ * The sending lives that count the message that went out at a place.
+ *
+ * @param {Book} book
+ * @param {number} at
+ */
+function sendersOf(book, at) {
+    return book.lives.filter((it) => !it.receives && book.countedBy(it).includes(at));
+}
+
+/**
+ * Between which two lives a message of data went.
+ *
+ * @param {Book} book
+ * @param {number} at
+ */
+function between(book, at) {
+    const senders = sendersOf(book, at);
+    const pairs = senders.flatMap((it) => book.partnersOf(it).map((other) => ({ line: it.line, other: other.line })));
+    if (pairs.length) return said("promise.between", "between", pairs[0]);
+    return senders.length ? said("promise.between", "to none", { line: senders[0].line }) : said("promise.between", "of none");
+}
+
+/**
  * Of a message of data, which sending life counts it, and whether the receiving one does that this matches.
  *
  * @param {Book} book
@@ -393,11 +416,11 @@ function frees({ kind, flow: its }, flow) {
  * @param {number} came where it came in, if its host got RFNM; -1 else
  */
 function ofData(book, at, came) {
-    const sent = said("promise.told", "sent");
-    const sender = book.lives.find((it) => !it.receives && book.countedBy(it).includes(at));
-    if (!sender) return [sent, said("promise.arrived.answered.sent", "of none")];
+    const sent = [said("promise.told", "sent"), between(book, at)];
+    const [sender] = sendersOf(book, at);
+    if (!sender) return [...sent, said("promise.arrived.answered.sent", "of none")];
     const number = book.countedBy(sender).indexOf(at) + 1;
-    const counted = [sent, said("promise.arrived.answered.sent", "of life", { number, line: sender.line })];
+    const counted = [...sent, said("promise.arrived.answered.sent", "of life", { number, line: sender.line })];
     const clause = "promise.arrived.answered.arrived";
     if (came < 0) return [...counted, said(clause, "no rfnm")];
     const receivers = book.partnersOf(sender);

@@ -97,8 +97,8 @@ function pools({ hosts, sites, lines, plain, raw }) {
     };
 }
 
-/** Events of carriers that no schedule has: calms send distances, and pieces are thrown away by nobody. */
-const LEFT_OUT = ["route", "abandon"];
+/** Events of carriers that no schedule has: calms send distances, which are true, and pieces are thrown away by nobody. */
+const LEFT_OUT = ["route", "claim", "abandon"];
 
 const PLACES = [0, 1, 2];
 const [SENDS, RECEIVES] = [33, 16]; // sockets

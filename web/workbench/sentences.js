@@ -350,6 +350,7 @@ const INNER = {
             ? `${capital(it.imp(imp))} sends its distances to ${listed(over)}.`
             : filled(INSIDE["sends to nobody"], { imp: it.imp(imp) });
     },
+    claim: (it) => filled(INSIDE.claims, { imp: it.imp(it.moment.words[1]), number: it.moment.words[1] }),
     resend: (it) => sendings(it, it.imp(it.moment.words[1]), "sends again")
         || filled(INSIDE["nothing to send"], { imp: it.imp(it.moment.words[1]) }),
     enddown: (it) => {

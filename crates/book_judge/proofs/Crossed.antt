@@ -4,6 +4,8 @@ pub mod TextsBy
 pub mod Made
 pub mod Taken
 pub mod Streamed
+pub mod Supplies
+pub mod Granted
 pub mod Numbers
 pub mod Arrivals
 pub mod Sent

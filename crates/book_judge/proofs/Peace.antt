@@ -438,18 +438,3 @@ fed_some names lives handed log p found are counts at w = record {
   first = (fed_first names lives handed log p are counts (omega (arith, at.0)) at.1, λ fed. at.2 (fed_at names lives handed log (p + 1) p are (omega arith) fed));
   at = w;
 }
-
-pub excess_none : (names : List Name) (lives : List Life) (log : List Crossing) → AreNamed (length lives) names lives log
-    → FoundFirst (GrantedAt names lives) (length lives) None → SafeGrants log lives
-excess_none names lives log are all =
-    let P : List Life → Type 0 = λ xs. HaveGranted log lives xs in
-    let has : HaveGranted log lives lives = subst P (take_all (length lives) lives (omega arith)) (granted_first names lives log (length lives) are all) in
-    record { taken = has.taken; sent = has.sent }
-
-pub excess_some : (names : List Name) (lives : List Life) (log : List Crossing) (p : ℕ) (found : Finding) → AreNamed (length lives) names lives log
-    → FoundFirst (GrantedAt names lives) (length lives) (Some p) → WithMatch found p log lives → ShowsLife (first_granted log lives) found log lives
-excess_some names lives log p found are at w = record {
-  place = p;
-  first = (granted_first names lives log p are at.1, λ has. at.2 (granted_at names lives log (p + 1) p are (omega arith) has));
-  at = w;
-}

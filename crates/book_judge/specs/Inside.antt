@@ -7,6 +7,7 @@ pub mod Joined
 pub mod Starts
 pub mod Arrivals
 pub mod Sent
+pub mod Allocations
 pub mod Said
 pub mod Taken
 pub mod Keys

@@ -5,15 +5,17 @@ ghost use Rattle.interface.specs.declared.crossing.Crossing.{Crossing};
 ghost use Rattle.net_sim.specs.Audit.{IsWellFormed};
 ghost use Rattle.net_sim.specs.Findings.{ShowsLife, ShowsMalformed};
 ghost use Rattle.world_keeps_streams.specs.Sent.{EachWasSent};
-ghost use Rattle.book_judge.specs.Broken.{IsBroken, first_sent};
+ghost use Rattle.book_judge.specs.Broken.{IsBroken, KeepsGrants, first_grants, first_sent};
 ghost use Rattle.book_judge.specs.Inside.Asked.{AreNamed, unstamped};
 ghost use Rattle.book_judge.specs.Inside.Chains.{AreChained};
-ghost use Rattle.book_judge.specs.Inside.Said.{TellsCloses, TellsGrants, TellsPartners, TellsStreams};
+ghost use Rattle.book_judge.specs.Inside.Said.{TellsCloses, TellsPartners, TellsStreams};
+ghost use Rattle.book_judge.specs.Inside.Starts.{AreStarts};
 
+use crate::allocations::allocations_of;
 use crate::arrivals::arrivals_of;
 use crate::chains::chained;
 use crate::closes::lost_at;
-use crate::grants::excess_at;
+use crate::grants::{beyond_at, excess_at, first_of};
 use crate::indexed_log::IndexedLog;
 use crate::matches::with_match;
 use crate::names::Name;
@@ -21,7 +23,7 @@ use crate::partners::odds_at;
 use crate::places::Places;
 use crate::sent::unsent_at;
 use crate::stamps::partners_of;
-use crate::starts::starts_of;
+use crate::starts::{Start, starts_of};
 use crate::streams::unfed_at;
 use net_sim::{BitLog, Finding, Life};
 use promise::Fate;
@@ -134,19 +136,32 @@ fn unfed(
     Some(with_match(names, lives, place))
 }
 
-/// Returns the first life that breaks grants, with the one that it matches.
+/// Returns the first life that breaks grants, with the one that it matches. These are where the messages of each life
+/// begin.
+///
+/// Errors: `AllocError`.
 fn excess(
+    alloc: Global,
+    log: &IndexedLog<'_>,
+    starts: &[Option<Start>],
     last: &Places,
     before: &[Option<usize>],
     names: &[Name],
     lives: &[Life],
-) -> Option<Finding>
+) -> Result<Option<Finding>, AllocError>
     requires chained { AreChained (length lives.now) last.now before.now lives.now }
-    requires counts { length names.now ≡ length lives.now }
-    ensures { TellsGrants result names.now lives.now }
+    requires named { AreNamed (length lives.now) names.now lives.now (reverse log.now) }
+    requires started { AreStarts (length lives.now) starts.now lives.now log.now }
+    ensures { IfOk result (λ found. MatchOption found (KeepsGrants (reverse log.now) lives.now) (λ at. ShowsLife (first_grants (reverse log.now) lives.now) at (reverse log.now) lives.now)) }
 {
-    let place = excess_at(last, before, names, lives)?;
-    Some(with_match(names, lives, place))
+    let crossed = log.crossings();
+    let allocations = allocations_of(alloc, crossed)?;
+    let taken = excess_at(last, before, names, lives);
+    let sent = beyond_at(&allocations, crossed.len(), starts, lives);
+    match first_of(taken, sent) {
+        Some(place) => Ok(Some(with_match(names, lives, place))),
+        None => Ok(None),
+    }
 }
 
 /// Returns the first life that breaks closes, with the one that it matches.
@@ -167,12 +182,13 @@ fn lost(
 }
 
 /// Returns the first life that counts a message which isn't the one of its number of a life that it matches, with the life
-/// that it matches. These are the requests of the partners of the lives.
+/// that it matches. These are where the messages of each life begin, and the requests of the partners of the lives.
 ///
 /// Errors: `AllocError`.
 fn unsent(
     alloc: Global,
     log: &IndexedLog<'_>,
+    starts: &[Option<Start>],
     last: &Places,
     before: &[Option<usize>],
     names: &[Name],
@@ -180,12 +196,12 @@ fn unsent(
 ) -> Result<Option<Finding>, AllocError>
     requires chained { AreChained (length lives.now) last.now before.now lives.now }
     requires named { AreNamed (length lives.now) names.now lives.now (reverse log.now) }
+    requires started { AreStarts (length lives.now) starts.now lives.now log.now }
     ensures { IfOk result (λ found. MatchOption found (EachWasSent (reverse log.now) lives.now) (λ at. ShowsLife (first_sent (reverse log.now) lives.now) at (reverse log.now) lives.now)) }
 {
     let arrivals = arrivals_of(alloc, log)?;
-    let starts = starts_of(alloc, log, lives)?;
     let into = log.came();
-    match unsent_at(into, &arrivals, &starts, last, before, names, lives) {
+    match unsent_at(into, &arrivals, starts, last, before, names, lives) {
         Some(place) => Ok(Some(with_match(names, lives, place))),
         None => Ok(None),
     }
@@ -209,9 +225,10 @@ fn broken_parts(
 {
     let partners = odd_partners(alloc, names, lives)?;
     let (last, before) = chained(alloc, lives)?;
+    let starts = starts_of(alloc, log, lives)?;
     let streams = unfed(&last, &before, names, lives, handed);
-    let grants = excess(&last, &before, names, lives);
-    let sent = unsent(alloc, log, &last, &before, names, lives)?;
+    let grants = excess(alloc, log, &starts, &last, &before, names, lives)?;
+    let sent = unsent(alloc, log, &starts, &last, &before, names, lives)?;
     let closes = lost(&last, &before, names, lives, handed, fates);
     Ok(Broken {
         malformed: None,
@@ -227,8 +244,8 @@ fn broken_parts(
 /// count wasn't sent so, or that a life which its partner ended lost anything. A life that has no fate isn't one
 /// that its partner ended.
 ///
-/// It says what [`net_sim::malformed`], [`net_sim::broken_partners`], [`net_sim::broken_streams`] and
-/// [`net_sim::broken_grants`] say. Those take no memory, and look at each pair of lives; here each request has its place in a
+/// It says what [`net_sim::malformed`], [`net_sim::broken_partners`] and [`net_sim::broken_streams`] say, and what
+/// [`net_sim::broken_grants`] does with what ALLs grant beside it. Those take no memory, and look at each pair of lives; here each request has its place in a
 /// map, so the time grows with crossings and lives, and only of lives that have one own request each pair is looked at.
 ///
 /// Errors: `AllocError`.

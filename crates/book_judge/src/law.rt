@@ -11,7 +11,7 @@ ghost use Rattle.interface.specs.declared.crossing.Crossing.TheVariants as cross
 ghost use Rattle.interface.specs.declared.message.HostMessage.{HostMessage};
 ghost use Rattle.net_sim.specs.declared.auditing.findings.Finding.{Finding};
 ghost use Rattle.net_sim.specs.declared.auditing.findings.Finding.TheVariants as finding;
-ghost use Rattle.net_sim.specs.Findings.{ShowsLife};
+ghost use Rattle.net_sim.specs.Findings.{EndsAt, ShowsLife};
 ghost use Rattle.net_sim.specs.Worked.{eight, four};
 ghost use Rattle.net_sim.specs.WorkedMoments.{rts, str};
 ghost use Rattle.book_judge.specs.WorkedLives.{again_log, down_log, late_answer, reset_log, stopped_log};
@@ -26,13 +26,14 @@ ghost use Rattle.promise.specs.declared.life.Fate.{Fate};
 ghost use Rattle.promise.specs.declared.life.Fate.TheVariants as fate;
 ghost use Rattle.promise.specs.declared.life.Life.{Life};
 ghost use Rattle.world_keeps_lives.specs.WorkedFormed.{gave, sent_log, took};
-ghost use Rattle.book_judge.specs.Broken.{IsBroken, first_closed, only_malformed, unbroken};
+ghost use Rattle.book_judge.specs.Broken.{IsBroken, first_closed, first_grants, only_malformed, unbroken};
 ghost use Rattle.book_judge.specs.Fates.{AreSuited, UnsuitedAt, suits};
 ghost use Rattle.book_judge.specs.Lives.{AreMade, UnmadeAt};
 ghost use Rattle.book_judge.specs.Runs.{IsSomeRun, StraysAt};
 ghost use Rattle.book_judge.specs.Toward.{AreToward, UntowardAt};
 
 use world_keeps_lives::law::worked_formed;
+use world_keeps_streams::worked_sent::worked_granted;
 
 /// Logs of one crossing.
 pub fn worked_runs()
@@ -63,6 +64,15 @@ pub fn worked_broken()
     ensures not_whole { (h : List Bool) → IsBroken unbroken [] [] (h ∷ []) [] → ⊥ }
     ensures no_part { (h : List Bool) (found : Finding) → IsBroken (record (only_malformed (finding.List 0)) { grants = Some found }) [] [] (h ∷ []) [] → ⊥ }
 {}
+
+/// Of a life that sent three messages, where the ALLs that its host took grant two.
+pub fn worked_grants()
+    // grants are broken, at this life, though no life that took any is there
+    ensures broken { IsBroken unbroken sent_log (record gave { messages = 3 } ∷ []) ([] ∷ []) [] → ⊥ }
+    ensures here { EndsAt (first_grants sent_log (record gave { messages = 3 } ∷ [])) 0 }
+{
+    worked_granted();
+}
 
 /// Of the lives of a world in which eight bits were sent, and twelve handed over, the one that took the eight.
 pub fn worked_closes()

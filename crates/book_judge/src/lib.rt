@@ -10,6 +10,7 @@
 //! Nothing here reads lines: a log is a list of crossings, the oldest first.
 #![tactic(auto)]
 
+mod allocations;
 mod arrivals;
 mod bits;
 mod broken;

@@ -1,8 +1,8 @@
 -- Where memory may run out as a log is read.
 use Rattle.book_log.proofs.Common.{All-cons, All-nil, Line, ended_line}
 use Rattle.std.proofs.Common.{◌≡◌, ℕ, true, List, [], ◌∷◌, ◌++◌, refl, sym, ap, ◌∙◌, subst, ◌⊎◌, Err, IfErr, Ok, Result}
-use Rattle.book_log.specs.Log.{Book, IsBook, IsCrossing, IsHanded, IsLived, text_of_lines, HasOctets, is_of_octets}
-use Rattle.book_log.specs.Steps.{IsLine, line_text, BeginsBook, RanOutIn, opening_book, words_in}
+use Rattle.book_log.specs.Log.{Book, IsBook, IsCrossing, IsHanded, IsLived, text_of_lines, HasOctets, RanOut, is_of_octets}
+use Rattle.book_log.specs.Steps.{IsLine, line_text, BeginsBook, opening_book, words_in}
 use Rattle.book_log.specs.declared.lines.Line.TheVariants as line
 use Rattle.book_log.proofs.Books.{begins_told, ended_more, texts, told}
 use Rattle.book_log.proofs.Going.{Reached}
@@ -33,7 +33,7 @@ begins_one line.End is not = absurd (not refl)
 
 -- the line that is read next
 pub ran_out : (text left this more : List ℕ) (b : Book) (passed : ℕ) → Reached text left b passed
-    → left ≡ this ++ 10 ∷ more → HasOctets this ⊎ BeginsBook (this ∷ []) → RanOutIn text
+    → left ≡ this ++ 10 ∷ more → HasOctets this ⊎ BeginsBook (this ∷ []) → RanOut BeginsBook text
 ran_out text left this more b passed r is wants = record {
   before = texts (told b);
   line = this;

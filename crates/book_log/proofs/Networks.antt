@@ -219,7 +219,7 @@ is_fault text left strangers fault.OutOfMemory names ran = record {
 }
 
 -- memory runs out for a stranger
-pub ran_out_named : (text : List ℕ) → NamesMore text → RanOut text
+pub ran_out_named : (text : List ℕ) → NamesMore text → RanOut Begins text
 ran_out_named text m = record {
   before = map stranger_line m.strangers ++ [];
   line = stranger_line m.next;
@@ -271,7 +271,7 @@ log_some octets strangers b log none =
     let zero : length octets ≡ 0 = ap length none in
     absurd (omega (arith, few, all, first, second, third, zero))
 
-pub ran_some : (octets : List ℕ) → RanOut octets → octets ≢ []
+pub ran_some : (octets : List ℕ) → RanOut Begins octets → octets ≢ []
 ran_some octets ran none =
     let all = ap length ran.parted ∙ length-append (text_of_lines ran.before) (ended_line ran.line ++ ran.rest) in
     let behind = length-append (ended_line ran.line) ran.rest in

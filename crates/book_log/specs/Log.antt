@@ -190,16 +190,16 @@ pub record HasOctets (line : List ℕ) : Type 0 where
   pub words : slice_split (λ b. b == 32) line ≡ first ∷ others
   pub octets : is_of_octets first ≡ true
 
--- memory runs out at a line with octets, or at one with which a log may begin; and some log begins with the lines before it
-pub record RanOut (octets : List ℕ) : Type 0 where
+-- memory runs out at a line with octets, or at one with which such a text may begin; and some such text begins with the lines before it
+pub record RanOut (BeginsWith : List (List ℕ) → Type 0) (octets : List ℕ) : Type 0 where
   pub before : List (List ℕ)
   pub line : List ℕ
   pub rest : List ℕ
   pub parted : octets ≡ text_of_lines before ++ (ended_line line ++ rest)
-  pub begins : Begins before
-  pub wants : HasOctets line ⊎ Begins (line ∷ [])
+  pub begins : BeginsWith before
+  pub wants : HasOctets line ⊎ BeginsWith (line ∷ [])
 
 -- why octets are no log
 abbrev pub IsLogFault : List ℕ → LogFault → Type 0
 IsLogFault octets (fault.BadLine number) = IsBadLine octets number
-IsLogFault octets fault.OutOfMemory = RanOut octets
+IsLogFault octets fault.OutOfMemory = RanOut Begins octets

@@ -20,7 +20,7 @@ use Rattle.script.specs.Input.{ended_line}
 use Rattle.script.specs.Spelling.{IsFlow, IsHost, octets_text}
 use Rattle.std.specs.declared.alloc.AllocError.{AllocError}
 use Rattle.world_replay.specs.Printed.{kind_text}
-use Rattle.book_log.specs.Log.{Book, HasOctets, IsAmount, IsBook, IsCrossing, IsHanded, IsLived, answer_name, fate_name}
+use Rattle.book_log.specs.Log.{Book, IsAmount, IsBook, IsCrossing, IsHanded, IsLived, RanOut, answer_name, fate_name}
 use Rattle.book_log.specs.Log.{handed_line, life_line, log_lines}
 use Rattle.book_log.specs.Log.{log_text, logged_fate, logged_line, stranger_line, strangers_text, text_of_lines}
 use Rattle.book_log.specs.declared.fault.LogFault.{LogFault}
@@ -241,18 +241,9 @@ pub record IsBadBookLine (octets : List ℕ) (number : ℕ) : Type 0 where
   pub bad : (line more : List ℕ) → rest ≡ ended_line line ++ more → BeginsBook (before ++ line ∷ []) → ⊥
   pub none : (b : Book) → IsBookText octets b → ⊥
 
--- memory runs out at a line of it
-pub record RanOutIn (octets : List ℕ) : Type 0 where
-  pub before : List (List ℕ)
-  pub line : List ℕ
-  pub rest : List ℕ
-  pub parted : octets ≡ text_of_lines before ++ (ended_line line ++ rest)
-  pub begins : BeginsBook before
-  pub wants : HasOctets line ⊎ BeginsBook (line ∷ [])
-
 abbrev pub IsBookFault : List ℕ → LogFault → Type 0
 IsBookFault octets (fault.BadLine number) = IsBadBookLine octets number
-IsBookFault octets fault.OutOfMemory = RanOutIn octets
+IsBookFault octets fault.OutOfMemory = RanOut BeginsBook octets
 
 -- a fault of the lines after this many, as one of all lines; its number has 64 bits
 abbrev pub fault_after : ℕ → LogFault → LogFault

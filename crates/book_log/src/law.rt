@@ -1,11 +1,12 @@
 //! What logs promise, as laws over their definitions. The functions here do nothing: each clause is the law.
 
-ghost use Rattle.std.specs.Prelude.{◌≡◌, ◌↔◌, ◌∷◌, ◌++◌, ℕ, true, List, [], codes};
+ghost use Rattle.std.specs.Prelude.{◌≡◌, ◌↔◌, ◌∷◌, ◌++◌, ℕ, true, false, List, [], codes};
 ghost use Rattle.interface.specs.Host.{Host, host_before};
 ghost use Rattle.script.specs.Input.{ended_line};
 ghost use Rattle.script.specs.Spelling.{IsHost};
-ghost use Rattle.book_log.specs.Log.{AreStrangers, Begins, Book, IsBook, IsLog, IsBadLine, log_text, stranger_line};
-ghost use Rattle.book_log.specs.Log.{strangers_text};
+ghost use Rattle.book_log.specs.Log.{AreStrangers, Begins, Book, HasOctets, IsBook, IsLog, IsBadLine, RanOut};
+ghost use Rattle.book_log.specs.Log.{is_of_octets};
+ghost use Rattle.book_log.specs.Log.{log_text, stranger_line, strangers_text};
 
 /// There is one reading: octets are the log of one network and one book, or have one first bad line, and never both.
 pub fn one_reading()
@@ -38,4 +39,21 @@ pub fn worked_strangers()
     ensures falling_number { AreStrangers (record { host = 1; imp = 2 } ∷ record { host = 0; imp = 2 } ∷ []) → ⊥ }
     ensures twice { AreStrangers (record { host = 1; imp = 2 } ∷ record { host = 1; imp = 2 } ∷ []) → ⊥ }
     ensures no_host { AreStrangers (record { host = 4; imp = 2 } ∷ []) → ⊥ }
+{}
+
+/// Where memory may run out as a log is read.
+pub fn worked_memory()
+    // octets are in the lines of messages, of lives and of what was handed over
+    ensures sent { is_of_octets (codes "out") ≡ true }
+    ensures taken { is_of_octets (codes "in") ≡ true }
+    ensures lived { is_of_octets (codes "life") ≡ true }
+    ensures handed { HasOctets (codes "handed 0 -") }
+
+    // and in no other, be its first word only longer
+    ensures none { HasOctets (codes "up 0/1") → ⊥ }
+    ensures longer { is_of_octets (codes "outer") ≡ false }
+
+    // not at a line with which nothing begins, and not after lines with which nothing begins
+    ensures unwanted { RanOut (λ lines. lines ≡ []) (codes "up\n") → ⊥ }
+    ensures begun { (octets : List ℕ) → RanOut (λ lines. ⊥) octets → ⊥ }
 {}

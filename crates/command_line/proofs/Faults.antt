@@ -1,17 +1,14 @@
 -- Why octets are no input.
-use Rattle.command_line.proofs.Common.{◌≡◌, Bool, true, false, List, ℕ, Result, Ok, Err, IfErr, ap, inl, inr, refl, subst}
-use Rattle.command_line.proofs.Common.{sym, ◌∙◌, false≢true, TopologyFields, Describes, IsInputFault, IsReplayFault}
-use Rattle.command_line.proofs.Common.{ScriptFault, IsUtf8, IsParted, IsNetworkFault}
-use Rattle.std.proofs.Common.{◌↔◌, ◌≤◌, length}
+use Rattle.command_line.proofs.Common.{false≢true, are_some, TopologyFields, Describes, IsInputFault, IsInput, ScriptFault}
 use Rattle.toml.specs.Errors.{IsBlank}
+use Rattle.script.specs.Input.{IsParted}
+use Rattle.std.proofs.Common.{◌≡◌, Bool, true, false, List, ℕ, Result, Ok, Err, IfErr, ap, inl, inr, refl, subst, sym, ◌∙◌, IsUtf8, ◌↔◌, ◌≤◌, length}
+use Rattle.command_line.specs.Steps.{IsReplayFault, IsNetworkFault, IsEventsFault}
 use Rattle.replay.specs.Failing.{TellsCannotWrite}
 use Rattle.replay.specs.declared.events.ReplayFault.{ReplayFault}
 use Rattle.replay.specs.declared.events.ReplayFault.TheVariants as replay
-use Rattle.command_line.proofs.Common.{IsInput}
-use Rattle.command_line.specs.Events.{Asked}
+use Rattle.command_line.specs.Events.{Asked, IsFirstBadIn}
 use Rattle.command_line.specs.Faults.{told_as}
-use Rattle.command_line.specs.Events.{IsFirstBadIn}
-use Rattle.command_line.specs.Steps.{IsEventsFault}
 use Rattle.command_line.specs.declared.fault.ScriptFault.TheVariants as fault
 
 pub network_fault : (octets document script : List ℕ) (f : ScriptFault) → IsParted octets document script → IsNetworkFault f → (f ≡ fault.BadTopology → IsUtf8 document → (t : TopologyFields) → ¬ (Describes document t))
@@ -57,7 +54,7 @@ unwritten r f failed is other whole = (λ e. absurd (other (ap err_of (sym is �
 -- once they describe a network, memory may run out for its script
 pub script_fault : (octets document script : List ℕ) (network : TopologyFields) (f : ScriptFault)
     → length octets ≤ 268435456 → IsParted octets document script → Describes document network
-    → IsEventsFault (IsFirstBadIn network.raw) script f → IsInputFault octets f
+    → IsEventsFault (IsFirstBadIn network.raw (are_some network.strangers)) script f → IsInputFault octets f
 script_fault octets document script network (fault.BadLine number) short parted described known =
     record { short = short; document = document; script = script; network = network; parted = parted; described = described; bad = known }
 script_fault octets document script network fault.OutOfMemory short parted described known =

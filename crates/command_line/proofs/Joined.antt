@@ -1,31 +1,17 @@
--- What `--log` writes of a network without strangers, `--audit` reads and calls kept.
-use Rattle.command_line.proofs.Common.{◌≡◌, ℕ, Bool, true, List, [], ◌∷◌, Option, Some, Err, inl, inr, map, refl, sym}
-use Rattle.command_line.proofs.Common.{subst, reverse-reverse, fates_of, lives_of, lives_back, Host, IsRun}
-use Rattle.command_line.proofs.Common.{SafeMessages, Crossing, Says, AreFated, ClosesWhole, Fate, Life, Calls}
-use Rattle.command_line.proofs.Common.{TopologyFields, CarrierKind, AreSuited, IsSomeRun, AuditsLog, IsAuditFault}
-use Rattle.command_line.proofs.Common.{Judged, SaysOf, kept, Verdict, plain_calls, subnet_calls, plain_of, subnet_of}
-use Rattle.command_line.proofs.Common.{Raw, World, LogsFrom, LogsOver, raw_book, world_book, AuditFault, ap, ◌∙◌}
-use Rattle.std.proofs.Common.{reverse}
-use Rattle.book_log.specs.Log.{Book, logged_fate}
-use Rattle.book_log.proofs.lemmas.{alone, book_once, fates_back, strangers_once}
-use Rattle.book_judge.specs.Lives.{AreMade}
-use Rattle.interface.specs.Host.{is_host}
-use Rattle.mixed_worlds.specs.Book.{beside_among, lives_among}
-use Rattle.promise.specs.Safe.{SafeBook}
-use Rattle.world_keeps_streams.specs.Sent.{EachWasSent}
+-- What `--log` writes without strangers, `--audit` reads and calls kept.
+use Rattle.command_line.proofs.Common.{reverse-reverse, Host, is_host, IsRun, SafeMessages, Crossing, Says, AreFated, ClosesWhole, IsBeside, Fate, Life, Calls, IsSomeRun, RawEvent, Verdict, WorldEvent, world_book, AuditFault, AreMade, beside_among, lives_among, SafeBook, EachIsWithin, EachWasSent, made_twice, made_with}
+use Rattle.std.proofs.Common.{◌≡◌, ℕ, Bool, true, List, [], ◌∷◌, Option, Some, Err, inl, inr, map, refl, sym, subst, ap, ◌∙◌, reverse}
+use Rattle.book_log.specs.Log.{fates_of, lives_of, Book, logged_fate}
+use Rattle.book_log.proofs.lemmas.{lives_back, alone, book_once, fates_back, strangers_once}
+use Rattle.book_judge.specs.Fates.{AreSuited, Outlasts, IsSuited, suits}
+use Rattle.command_line.specs.Audits.{AuditsLog, IsAuditFault, Judged, SaysOf, kept, IsKeptLog, SaysKept}
+use Rattle.command_line.specs.Logs.{LogsRaw, LogsWorld, raw_book}
 use Rattle.headline.proofs.lemmas.{kept_promise}
 use Rattle.net_sim.specs.declared.auditing.said.Audit.{Audit}
 use Rattle.net_sim.specs.declared.auditing.said.Audit.TheVariants as audit
 use Rattle.net_sim.specs.Book.{Kept}
 use Rattle.promise.specs.Ends.{Asking, Closed, Dropped, Going, Over, Stage, Stopped, stage}
-use Rattle.promise.specs.Fates.{IsBeside}
 use Rattle.promise.specs.declared.life.Fate.TheVariants as fate
-use Rattle.topology.specs.declared.network.CarrierKind.TheVariants as kind
-use Rattle.book_judge.specs.Fates.{Outlasts, IsSuited, suits}
-use Rattle.book_judge.proofs.lemmas.{made_twice, made_with}
-use Rattle.command_line.specs.Audits.{IsKeptLog, SaysKept}
-use Rattle.command_line.specs.Events.{Asked}
-use Rattle.command_line.specs.Logs.{Logged}
 use Rattle.command_line.specs.declared.auditing.AuditFault.TheVariants as fault
 use Rattle.command_line.proofs.Verdicts.Among.{all_beside, all_lives, none_toward}
 use Rattle.command_line.proofs.Verdicts.Named.{kept_from_safe, only_kept}
@@ -141,9 +127,9 @@ says_logged k are hosts j =
 -- without strangers all that there is is judged
 kept_alone_from : (log : List Crossing) (lives : List Life) (handed : List (List Bool)) (fates : List Fate)
     → IsSomeRun (reverse log) → AreMade (reverse log) lives → Says audit.Kept (reverse log) lives handed
-    → EachWasSent (reverse log) lives → ClosesWhole (reverse log) lives handed fates → AreSuited (reverse log) lives fates
+    → EachIsWithin (reverse log) lives → EachWasSent (reverse log) lives → ClosesWhole (reverse log) lives handed fates → AreSuited (reverse log) lives fates
     → Judged kept (λ h. is_host [] h) log lives handed fates
-kept_alone_from log lives handed fates run made safe sent closes suited =
+kept_alone_from log lives handed fates run made safe within sent closes suited =
     let xs : lives ≡ lives_among (λ h. is_host [] h) lives = sym (all_lives lives) in
     let hs : handed ≡ beside_among (λ h. is_host [] h) lives handed = sym (all_beside lives handed) in
     let fs : fates ≡ beside_among (λ h. is_host [] h) lives fates = sym (all_beside lives fates) in
@@ -151,6 +137,7 @@ kept_alone_from log lives handed fates run made safe sent closes suited =
     (subst (λ (ys : List Life). AreMade (reverse log) ys) xs made) safe.0
     (subst (λ (ys : List Life). SafeBook (reverse log) ys (beside_among (λ h. is_host [] h) lives handed)) xs
     (subst (λ (ys : List (List Bool)). SafeBook (reverse log) lives ys) hs safe.1))
+    (subst (λ (ys : List Life). EachIsWithin (reverse log) ys) xs within)
     (subst (λ (ys : List Life). EachWasSent (reverse log) ys) xs sent)
     (subst (λ (ys : List Life). ClosesWhole (reverse log) ys (beside_among (λ h. is_host [] h) lives handed) (beside_among (λ h. is_host [] h) lives fates)) xs
     (subst (λ (ys : List (List Bool)). ClosesWhole (reverse log) lives ys (beside_among (λ h. is_host [] h) lives fates)) hs
@@ -159,9 +146,9 @@ kept_alone_from log lives handed fates run made safe sent closes suited =
     (subst (λ (ys : List Fate). AreSuited (reverse log) lives ys) fs suited))
     (none_toward lives handed)
 
-kept_from : {C : Type 0} (calls : Calls C) (opening : C) (events : Asked) (octets : List ℕ)
-    → LogsFrom calls opening events (Some []) (Some octets) → IsKeptLog octets
-kept_from calls opening (Raw events) octets h = record {
+pub raw_kept : {C : Type 0} (calls : Calls C) (opening : C) (events : List RawEvent) (octets : List ℕ)
+    → LogsRaw calls opening events (Some []) (Some octets) → IsKeptLog octets
+raw_kept calls opening events octets h = record {
   strangers = [];
   book = raw_book (calls.seen h.last).log;
   log = (alone octets (raw_book (calls.seen h.last).log)).1 (h.written, h.valid);
@@ -169,11 +156,15 @@ kept_from calls opening (Raw events) octets h = record {
       kept_alone_from (reverse (calls.seen h.last).log) [] [] []
       (run_twice (calls.seen h.last).hosts (calls.seen h.last).log h.run) (λ x there. absurd (none_there x there))
       (turned audit.Kept (calls.seen h.last).log [] [] (kept_alone (calls.seen h.last).log h.messages))
+      (λ x link there sending named. absurd (none_there x there))
       (λ x p m there comes crossed c. absurd (none_there x there))
       (none_closes (reverse (reverse (calls.seen h.last).log)))
       (record { each = λ x f beside. absurd beside; contact = λ x y f beside other both. absurd beside });
 }
-kept_from calls opening (World events) octets h = record {
+
+pub world_kept : {C : Type 0} (calls : Calls C) (opening : C) (events : List WorldEvent) (octets : List ℕ)
+    → LogsWorld calls opening events (Some []) (Some octets) → IsKeptLog octets
+world_kept calls opening events octets h = record {
   strangers = [];
   book = world_book h.last.kept;
   log = (alone octets (world_book h.last.kept)).1 (h.written, h.valid);
@@ -183,21 +174,14 @@ kept_from calls opening (World events) octets h = record {
       (run_twice (calls.seen h.last.carrier).hosts h.last.kept.book.crossings h.promise.book.run)
       (made_twice h.last.kept.book.crossings h.last.kept.book.lives
       (made_with h.last.kept.book.contacts h.last.kept.book.crossings h.last.kept.book.lives h.promise.book.contacts h.promise.book.formed h.promise.book.within))
-      (turned audit.Kept h.last.kept.book.crossings h.last.kept.book.lives h.last.kept.handed (kept_promise (calls.seen h.last.carrier).hosts h.last.kept h.promise.book))
+      (turned audit.Kept h.last.kept.book.crossings h.last.kept.book.lives h.last.kept.handed (kept_promise (calls.seen h.last.carrier).hosts (calls.seen h.last.carrier).log h.last.stopped h.last.kept h.promise.book))
+      (subst (λ (cs : List Crossing). EachIsWithin cs h.last.kept.book.lives) (sym (reverse-reverse h.last.kept.book.crossings)) h.promise.book.granted)
       (subst (λ (cs : List Crossing). EachWasSent cs h.last.kept.book.lives) (sym (reverse-reverse h.last.kept.book.crossings)) h.promise.book.sent)
       (closes_logged (reverse (reverse h.last.kept.book.crossings)) h.last.kept.book.lives h.last.kept.handed h.last.kept.fates
       (subst (λ (cs : List Crossing). ClosesWhole cs h.last.kept.book.lives h.last.kept.handed h.last.kept.fates) (sym (reverse-reverse h.last.kept.book.crossings)) h.promise.book.whole))
       (suited_logged (reverse (reverse h.last.kept.book.crossings)) h.last.kept.book.lives h.last.kept.fates
       (subst (λ (cs : List Crossing). AreSuited cs h.last.kept.book.lives h.last.kept.fates) (sym (reverse-reverse h.last.kept.book.crossings)) h.suited)));
 }
-
-kept_over : (carrier : CarrierKind) (t : TopologyFields) (events : Asked) (octets : List ℕ)
-    → LogsOver carrier t events (Some []) (Some octets) → IsKeptLog octets
-kept_over kind.Plain t events octets h = kept_from plain_calls (plain_of t) events octets h
-kept_over kind.Subnet t events octets h = kept_from subnet_calls (subnet_of t) events octets h
-
-pub logged_kept : (octets : List ℕ) → Logged (Some []) (Some octets) → IsKeptLog octets
-logged_kept octets h = kept_over h.network.carrier h.network h.events octets h.logged
 
 -- ---- and so its audit says
 

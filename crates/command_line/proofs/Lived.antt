@@ -1,22 +1,15 @@
 -- The lives of a book are those that its crossings and notices make.
-use Rattle.command_line.proofs.Common.{◌≡◌, ℕ, ◌<◌, ◌==◌, Bool, true, false, if◌then◌else◌, List, [], ◌∷◌, ◌++◌, map}
-use Rattle.command_line.proofs.Common.{refl, sym, ap, ap₂, ◌∙◌, arith, subst, Host, Crossing, Told, Life}
+use Rattle.command_line.proofs.Common.{Host, Crossing, Told, Life, Notice, Request}
+use Rattle.std.proofs.Common.{◌≡◌, ℕ, ◌<◌, ◌==◌, Bool, true, false, if◌then◌else◌, List, [], ◌∷◌, ◌++◌, map, refl, sym, ap, ap₂, ◌∙◌, arith, subst, ◌≤◌, suc, length, append-nil}
 use Rattle.std.proofs.lemmas.List.{map-append}
-use Rattle.command_line.proofs.Common.{AreLived, lives_in, ungranted}
-use Rattle.std.proofs.Common.{◌≤◌}
-use Rattle.std.proofs.Common.{suc, length, append-nil}
+use Rattle.command_line.specs.Lived.{AreLived, lives_in, ungranted, all_lives_told, told_at}
 use Rattle.std.proofs.lemmas.Bool.{eq-eqb, ne_eqb}
 use Rattle.interface.specs.declared.crossing.Crossing.TheVariants as crossing
-use Rattle.host_pairs.specs.declared.notice.Notice.{Notice}
 use Rattle.host_pairs.specs.declared.notice.Notice.TheVariants as notice
-use Rattle.sockets.specs.declared.request.Request.{Request}
 use Rattle.sockets.specs.declared.request.Request.TheVariants as request
-use Rattle.net_sim.specs.Book.{Kept, all_told, asked, book_told, carried, changed_when, crossed, granted, life_ended}
-use Rattle.net_sim.specs.Book.{lives_asked, lives_at, lives_between, lives_crossed, lives_on, lives_told, lives_with}
-use Rattle.net_sim.specs.Book.{returned, where_it}
+use Rattle.net_sim.specs.Book.{Kept, all_told, asked, book_told, carried, changed_when, crossed, granted, life_ended, lives_asked, lives_at, lives_between, lives_crossed, lives_on, lives_told, lives_with, returned, where_it}
 use Rattle.net_sim.specs.Story.{Asked, Crossed, Moment}
 use Rattle.net_sim.specs.Told.{host_in, kept_by, kept_in, notices_by, without_reports}
-use Rattle.command_line.specs.Lived.{all_lives_told, told_at}
 
 -- ---- what is done to lives, with what was granted or without it
 

@@ -1,15 +1,13 @@
 -- What `--log` writes is the log of the book that a replay leaves.
-use Rattle.command_line.proofs.Common.{◌≡◌, ℕ, Bool, List, [], ◌++◌, Option, Result, OnOk, refl, subst, sym, Appends}
-use Rattle.command_line.proofs.Common.{AreSuited, log_text, AreFated, Fate, WorldKeeps, IsRun, SafeMessages, Crossing}
-use Rattle.command_line.proofs.Common.{shown, WorldState, opening_world, Life, Writes, Calls, Detail, Host, RawEvent}
-use Rattle.command_line.proofs.Common.{WorldEvent, on_ok, world_book}
-use Rattle.std.proofs.Common.{reverse}
-use Rattle.book_log.specs.Log.{Book, IsBook, logged_book, strangers_text}
+use Rattle.command_line.proofs.Common.{Appends, AreSuited, AreFated, Fate, WorldKeeps, IsRun, SafeMessages, Crossing, shown, WorldState, opening_world, Life, Calls, Detail, Host, RawEvent, WorldEvent, on_ok}
+use Rattle.std.proofs.Common.{◌≡◌, ℕ, Bool, List, [], ◌++◌, Option, Result, OnOk, refl, subst, sym, reverse}
+use Rattle.book_log.specs.Log.{log_text, Book, IsBook, logged_book, strangers_text}
+use Rattle.replay.specs.Output.{Writes}
+use Rattle.command_line.specs.Logs.{world_book, LogsRaw, LogsWorld}
 use Rattle.net_sim.specs.Book.{Kept}
 use Rattle.replay.specs.Replay.{Replays}
 use Rattle.world_replay.specs.Output as lines
 use Rattle.world_replay.specs.Replay as worlds
-use Rattle.command_line.specs.Logs.{LogsRaw, LogsWorld}
 use Rattle.command_line.proofs.Verdicts.Judged.{joins}
 
 pub logs_raw : {C : Type 0} (calls : Calls C) (opening last : C) (events : List RawEvent) (detail : Detail) (log : List Crossing) (x y before after : Option (List ℕ))

@@ -1,29 +1,20 @@
 -- What a replay prints is a formed and safe book.
-use Rattle.command_line.proofs.Common.{arith, ◌≡◌, ◌+◌, ℕ, Bool, true, false, List, [], ◌∷◌, ◌++◌, Option, codes, refl}
-use Rattle.command_line.proofs.Common.{ap, sym, subst, ◌∙◌, length-append, Appends, Contains, WorldKeeps, plain_calls}
-use Rattle.command_line.proofs.Common.{Calls, Host, IsRun, SafeMessages, Crossing, Told, AreTwo, WorldState, Life}
-use Rattle.command_line.proofs.Common.{Reported, crossings_of, output, Detail, TopologyFields, CarrierKind}
+use Rattle.command_line.proofs.Common.{length-append, Appends, Contains, WorldKeeps, plain_calls, Boxes, Host, IsRun, SafeMessages, Crossing, Told, WorldState, Life, RawEvent, Reported, Detail, WorldEvent, WritesWorld, book_text, AreOneBook, PrintsBook, PrintsPart, log_of, shown_book, plain_settled, FormedBook}
+use Rattle.std.proofs.Common.{arith, ◌≡◌, ◌+◌, ℕ, Bool, true, false, List, [], ◌∷◌, ◌++◌, Option, codes, refl, ap, sym, subst, ◌∙◌, reverse, length}
+use Rattle.interface.specs.Calls.{Calls, Seen}
+use Rattle.promise.specs.Safe.{AreTwo, Match, SafeBook}
+use Rattle.replay.specs.Output.{crossings_of, output, Shown, Writes}
 use Rattle.script.specs.Input.{ended_line}
-use Rattle.command_line.proofs.Common.{WorldEvent, subnet_calls, plain_of, subnet_of, Raw, World, AreLived, lives_in}
-use Rattle.command_line.proofs.Common.{AreOneBook, PrintsBook, PrintsPart, ReplaysFrom, ReplaysOver, ShowsBook}
-use Rattle.command_line.proofs.Common.{WorldShowsFrom, book_text, Boxes, plain_settled}
-use Rattle.command_line.specs.Replayed.{Ran, RanInPart, EndsFrom, EndsOver}
-use Rattle.std.proofs.Common.{reverse, length}
-use Rattle.promise.specs.Formed.{FormedBook}
-use Rattle.interface.specs.Calls.{Seen}
+use Rattle.command_line.specs.Lived.{AreLived, lives_in}
+use Rattle.command_line.specs.Replayed.{ShowsBook, ShowsFrom, StopsFrom, WorldShowsFrom, WorldStopsFrom, WritesAll}
 use Rattle.promise.specs.Book.{Book}
 use Rattle.promise.specs.Notices.{FormedNotices}
-use Rattle.promise.specs.Safe.{Match, SafeBook}
 use Rattle.net_sim.specs.declared.event.WorldFault.TheVariants.{Carrier}
 use Rattle.icp.specs.declared.outcome.Outcome.TheVariants as outcome
 use Rattle.host_services.specs.declared.report.Report.TheVariants as report
-use Rattle.replay.specs.Output.{Shown}
 use Rattle.replay.specs.Output as raw
-use Rattle.topology.specs.declared.network.CarrierKind.TheVariants as kind
 use Rattle.promise.specs.Connections.{HasReported, IsEnd, JoinedBook}
 use Rattle.world_replay.specs.Output as lines
-use Rattle.command_line.specs.Events.{Asked, is_raw}
-use Rattle.command_line.specs.Printed.{log_of, shown_book}
 use Rattle.command_line.proofs.Lived.{lived, none_lived}
 use Rattle.command_line.proofs.Once.{world_once}
 
@@ -147,58 +138,45 @@ world_book seen last shows booked promise = record {
       (subst (λ (log : List Crossing). AreLived log last.kept.book.notices last.kept.book.lives) booked.crossed (lived promise.exact.lawful.whole.moments last.kept promise.exact.lawful.whole.kept));
 }
 
--- ---- any network
+-- ---- what is written
 
-printed_from : {C : Type 0} (calls : Calls C) (opening : C) (book : Bool) (detail : Detail) (events : Asked)
-    (a b : Option (List ℕ)) → ReplaysFrom calls opening book detail events a b →
-    PrintsBook (is_raw events) book detail a b
-printed_from calls opening book detail (Raw events) a b r = record {
+pub raw_prints : {C : Type 0} (calls : Calls C) (opening : C) (book : Bool) (detail : Detail) (events : List RawEvent)
+    (a b : Option (List ℕ)) → WritesAll detail (ShowsFrom calls opening events) a b → PrintsBook true book detail a b
+raw_prints calls opening book detail events a b r = record {
   shown = as_world r.shown;
   lives = [];
   one = raw_book (calls.seen r.shows.last).hosts r.shown (subst SafeMessages r.shows.crossed r.shows.messages) (subst (IsRun (calls.seen r.shows.last).hosts) r.shows.crossed r.shows.run);
   written = subst (λ xs. Appends a b (lines.output detail (as_world r.shown) ++ (xs ++ codes "end\n"))) (sym (no_lives book))
       (subst (λ xs. Appends a b (xs ++ codes "end\n")) (same_output detail r.shown) r.written);
 }
-printed_from calls opening book detail (World events) a b r = record {
+
+pub world_prints : {C : Type 0} (calls : Calls C) (opening : C) (book : Bool) (detail : Detail)
+    (events : List WorldEvent) (a b : Option (List ℕ)) → WritesWorld book detail (WorldShowsFrom calls opening events) a b
+    → PrintsBook false book detail a b
+world_prints calls opening book detail events a b r = record {
   shown = r.shown;
   lives = r.lives;
   one = subst (AreOneBook false r.shown) (sym r.shows.left) (world_book calls.seen r.shows.last r.shown r.shows.booked r.shows.promise);
   written = r.written;
 }
 
-printed_over : (carrier : CarrierKind) (network : TopologyFields) (book : Bool) (detail : Detail) (events : Asked)
-    (a b : Option (List ℕ)) → ReplaysOver carrier network book detail events a b →
-    PrintsBook (is_raw events) book detail a b
-printed_over kind.Plain network book detail events a b r = printed_from plain_calls (plain_of network) book detail events a b r
-printed_over kind.Subnet network book detail events a b r = printed_from subnet_calls (subnet_of network) book detail events a b r
-
-pub printed : (book : Bool) (detail : Detail) (a b : Option (List ℕ)) (h : Ran book detail a b) →
-    PrintsBook (is_raw h.events) book detail a b
-printed book detail a b h = printed_over h.network.carrier h.network book detail h.events a b h.replayed
-
-part_from : {C : Type 0} (calls : Calls C) (opening : C) (detail : Detail) (events : Asked) (a b : Option (List ℕ)) →
-    EndsFrom calls opening detail events a b → PrintsPart (is_raw events) detail a b
-part_from calls opening detail (Raw events) a b r = record {
+pub raw_part : {C : Type 0} (calls : Calls C) (opening : C) (detail : Detail) (events : List RawEvent)
+    (a b : Option (List ℕ)) → Writes detail (StopsFrom calls opening events) a b → PrintsPart true detail a b
+raw_part calls opening detail events a b r = record {
   shown = as_world r.shown;
   lives = [];
   one = raw_book (calls.seen r.is_shown.last).hosts r.shown (subst SafeMessages r.is_shown.crossed r.is_shown.messages) (subst (IsRun (calls.seen r.is_shown.last).hosts) r.is_shown.crossed r.is_shown.run);
   written = subst (Appends a b) (same_output detail r.shown) r.written;
 }
-part_from calls opening detail (World events) a b r = record {
+
+pub world_part : {C : Type 0} (calls : Calls C) (opening : C) (detail : Detail) (events : List WorldEvent)
+    (a b : Option (List ℕ)) → lines.Writes detail (WorldStopsFrom calls opening events) a b → PrintsPart false detail a b
+world_part calls opening detail events a b r = record {
   shown = r.shown;
   lives = r.is_shown.last.kept.book.lives;
   one = world_book calls.seen r.is_shown.last r.shown r.is_shown.booked r.is_shown.promise;
   written = r.written;
 }
-
-part_over : (carrier : CarrierKind) (network : TopologyFields) (detail : Detail) (events : Asked)
-    (a b : Option (List ℕ)) → EndsOver carrier network detail events a b → PrintsPart (is_raw events) detail a b
-part_over kind.Plain network detail events a b r = part_from plain_calls (plain_of network) detail events a b r
-part_over kind.Subnet network detail events a b r = part_from subnet_calls (subnet_of network) detail events a b r
-
-pub printed_in_part : (detail : Detail) (a b : Option (List ℕ)) (h : RanInPart detail a b) →
-    PrintsPart (is_raw h.events) detail a b
-printed_in_part detail a b h = part_over h.network.carrier h.network detail h.events a b h.stopped
 
 -- ---- lives that are shown of no world
 

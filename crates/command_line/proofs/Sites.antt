@@ -1,8 +1,7 @@
 -- The hosts that the sites of a topology list are those that a subnet wants.
-use Rattle.command_line.proofs.Common.{◌≡◌, ℕ, ◌+◌, List, [], ◌∷◌, ◌++◌, map, Option, Some, None, refl, ap, ◌∙◌}
-use Rattle.command_line.proofs.Common.{Host}
+use Rattle.std.proofs.Common.{◌≡◌, ℕ, ◌+◌, List, [], ◌∷◌, ◌++◌, map, Option, Some, None, refl, ap, ◌∙◌, zero, suc}
+use Rattle.interface.specs.Host.{Host}
 use Rattle.std.specs.List.{range_with_len}
-use Rattle.std.proofs.Common.{zero, suc}
 use Rattle.subnet.specs.Opening.{hosts_of_one}
 use Rattle.subnet.specs.Opening as subnet
 use Rattle.topology.specs.Topology.{hosts_from}

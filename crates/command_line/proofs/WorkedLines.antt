@@ -1,8 +1,7 @@
 -- Lines that no book has.
-use Rattle.command_line.proofs.Common.{◌≡◌, ◌==◌, ◌∙◌, ℕ, Bool, false, List, [], ◌∷◌, Option, ap, map, not, refl, subst, sym, false≢true, Host, Reported, Life, Detail, AreLived, ungranted, AreOneBook, PrintsBook, PrintsPart}
-use Rattle.std.proofs.Common.{true}
+use Rattle.command_line.proofs.Common.{false≢true, Host, Reported, Life, Detail, AreLived, ungranted, AreOneBook, PrintsBook, PrintsPart, HostMessage}
+use Rattle.std.proofs.Common.{◌≡◌, ◌==◌, ◌∙◌, ℕ, Bool, false, List, [], ◌∷◌, Option, ap, map, not, refl, subst, sym, true}
 use Rattle.interface.specs.declared.crossing.Crossing.TheVariants as crossing
-use Rattle.interface.specs.declared.message.HostMessage.{HostMessage}
 use Rattle.host_pairs.specs.declared.notice.Notice.TheVariants as notice
 use Rattle.net_sim.specs.Book.{new_life}
 use Rattle.promise.specs.declared.life.Amount.{Amount}

@@ -4,9 +4,8 @@ pub use Rattle.command_line.proofs.Joined.{said_kept}
 pub use Rattle.command_line.proofs.OneInput.{OneInput, input_once}
 pub use Rattle.command_line.proofs.Printed.{no_lives}
 pub use Rattle.command_line.proofs.Reading.{reads_none}
-pub use Rattle.command_line.proofs.Replayed.Determined.{OneMixed, mixed_once, not_both}
-pub use Rattle.command_line.proofs.Replayed.Either.{at_known, either_read, follow_fault, input_fault, mixed_read, plain_fault, plain_read, unread_either}
-pub use Rattle.command_line.proofs.Replayed.Strangers.{mixed_wants, mixed_writes_all, strangers_there}
+pub use Rattle.command_line.proofs.Replayed.Known.{as_script, at_known, input_fault, is_read, read_as, unread}
+pub use Rattle.command_line.proofs.Replayed.Strangers.{among_writes_all, strangers_there}
 pub use Rattle.command_line.proofs.Replayed.Written.{world_writes_all, writes_all}
 pub use Rattle.command_line.proofs.Sites.{same_hosts}
 pub use Rattle.command_line.proofs.Verdicts.Judged.{stays}

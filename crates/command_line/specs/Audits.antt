@@ -3,8 +3,8 @@ use Rattle.std.specs.Prelude.{◌≡◌, ◌≢◌, ◌↔◌, ℕ, ◌+◌, ◌
 use Rattle.std.specs.Prelude.{zero, if◌then◌else◌, is_none, MatchOption, Option, Some, None, Result, Ok, Err, codes}
 use Rattle.std.specs.Fmt.{decimal}
 use Rattle.std.specs.Io.KnownBytes.{Appends}
-use Rattle.book_log.specs.Log.{Book, IsBadLine, IsLog, RanOut, fates_of, lives_of}
-use Rattle.book_judge.specs.Broken.{IfFormed, IsBroken, first_closed, first_sent, only_malformed}
+use Rattle.book_log.specs.Log.{Begins, Book, IsBadLine, IsLog, RanOut, fates_of, lives_of}
+use Rattle.book_judge.specs.Broken.{IfFormed, IsBroken, KeepsGrants, first_closed, first_grants, first_sent, only_malformed}
 use Rattle.book_judge.specs.Fates.{AreSuited, UnsuitedAt}
 use Rattle.book_judge.specs.Lives.{AreMade, UnmadeAt}
 use Rattle.book_judge.specs.Runs.{IsSomeRun, StraysAt}
@@ -14,9 +14,9 @@ use Rattle.interface.specs.Messages.{SafeMessages}
 use Rattle.interface.specs.declared.crossing.Crossing.{Crossing}
 use Rattle.mixed_worlds.specs.Book.{beside_among, is_among, lives_among}
 use Rattle.net_sim.specs.Audit.{IsWellFormed, part_text}
-use Rattle.net_sim.specs.Findings.{AreFed, ShowsCrossing, ShowsLife, ShowsMalformed, ShowsTwo, first_fed, first_granted}
+use Rattle.net_sim.specs.Findings.{AreFed, ShowsCrossing, ShowsLife, ShowsMalformed, ShowsTwo, first_fed}
 use Rattle.promise.specs.Fates.{ClosesWhole}
-use Rattle.promise.specs.Safe.{SafeGrants, SafePartners}
+use Rattle.promise.specs.Safe.{SafePartners}
 use Rattle.promise.specs.declared.life.Fate.{Fate}
 use Rattle.promise.specs.declared.life.Life.{Life}
 use Rattle.world_keeps_streams.specs.Sent.{EachWasSent}
@@ -52,8 +52,9 @@ pub record Judged (v : Verdict) (strange : Host → Bool) (crossings : List Cros
       (λ found. ShowsTwo found (reverse crossings) (lives_among strange lives))
   pub streams : IfFormed v.malformed v.streams (AreFed (reverse crossings) (lives_among strange lives) (lives_among strange lives) (beside_among strange lives handed))
       (λ found. ShowsLife (first_fed (reverse crossings) (lives_among strange lives) (beside_among strange lives handed)) found (reverse crossings) (lives_among strange lives))
-  pub grants : IfFormed v.malformed v.grants (SafeGrants (reverse crossings) (lives_among strange lives))
-      (λ found. ShowsLife (first_granted (reverse crossings) (lives_among strange lives)) found (reverse crossings) (lives_among strange lives))
+  -- and what was sent is within what ALLs granted
+  pub grants : IfFormed v.malformed v.grants (KeepsGrants (reverse crossings) (lives_among strange lives))
+      (λ found. ShowsLife (first_grants (reverse crossings) (lives_among strange lives)) found (reverse crossings) (lives_among strange lives))
   -- each message that a receiving life counts is, by its number, that of a life that it matches
   pub sent : IfFormed v.malformed v.sent (EachWasSent (reverse crossings) (lives_among strange lives))
       (λ found. ShowsLife (first_sent (reverse crossings) (lives_among strange lives)) found (reverse crossings) (lives_among strange lives))
@@ -113,7 +114,7 @@ pub record IsSafeLog (strangers : List Host) (b : Book) : Type 0 where
   pub partners : SafePartners (reverse b.crossings) (program_lives strangers b)
   pub streams : AreFed (reverse b.crossings) (program_lives strangers b) (program_lives strangers b)
       (program_lists strangers b)
-  pub grants : SafeGrants (reverse b.crossings) (program_lives strangers b)
+  pub grants : KeepsGrants (reverse b.crossings) (program_lives strangers b)
   pub sent : EachWasSent (reverse b.crossings) (program_lives strangers b)
   pub toward : AreToward (λ h. is_host strangers h) (lives_of b) b.handed
 
@@ -300,7 +301,7 @@ IsLogReadFault fault.CannotWrite = ⊥
 -- the faults of octets that are no log
 abbrev pub IsBookFault : List ℕ → AuditFault → Type 0
 IsBookFault octets (fault.BadLog number) = IsBadLine octets number
-IsBookFault octets fault.OutOfMemory = RanOut octets
+IsBookFault octets fault.OutOfMemory = RanOut Begins octets
 IsBookFault octets fault.CannotRead = ⊥
 IsBookFault octets fault.CannotWrite = ⊥
 

@@ -1,5 +1,6 @@
 -- What scripts ask for.
-use Rattle.std.specs.Prelude.{ℕ, Bool, true, false, List}
+use Rattle.std.specs.Prelude.{◌==◌, ℕ, Bool, true, false, List, length, not}
+use Rattle.interface.specs.Host.{Host}
 use Rattle.script.specs.Script.{AskFor, IsFirstBad, IsFirstBadAs}
 use Rattle.script.specs.declared.event.RawEvent.{RawEvent}
 use Rattle.world_script.specs.WorldScript as world
@@ -22,14 +23,18 @@ abbrev pub is_raw : Asked → Bool
 is_raw (Raw events) = true
 is_raw (World events) = false
 
--- a script's lines ask for these events, where its network is raw or has host programs
-abbrev pub AsksFor : Bool → Asked → List (List ℕ) → Type 0
-AsksFor true (Raw events) lines = AskFor events lines
-AsksFor true (World events) lines = ⊥
-AsksFor false (Raw events) lines = ⊥
-AsksFor false (World events) lines = world.AskFor false events lines
+-- whether there are strangers
+abbrev pub are_some : List Host → Bool
+are_some strangers = not (length strangers == 0)
+
+-- a script's lines ask for these events, where its network is raw or has host programs, with strangers or without
+abbrev pub AsksFor : Bool → Bool → Asked → List (List ℕ) → Type 0
+AsksFor true among (Raw events) lines = AskFor events lines
+AsksFor true among (World events) lines = ⊥
+AsksFor false among (Raw events) lines = ⊥
+AsksFor false among (World events) lines = world.AskFor among events lines
 
 -- this is the first line that asks for no event
-abbrev pub IsFirstBadIn : Bool → List ℕ → ℕ → Type 0
-IsFirstBadIn true text number = IsFirstBad text number
-IsFirstBadIn false text number = IsFirstBadAs world_spelling (IsWorldEvent false) text number
+abbrev pub IsFirstBadIn : Bool → Bool → List ℕ → ℕ → Type 0
+IsFirstBadIn true among text number = IsFirstBad text number
+IsFirstBadIn false among text number = IsFirstBadAs world_spelling (IsWorldEvent among) text number

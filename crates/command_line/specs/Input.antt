@@ -6,7 +6,7 @@ use Rattle.script.specs.Input.{IsParted}
 use Rattle.script.specs.Script.{lines_of}
 use Rattle.topology.specs.Topology.{TopologyFields}
 use Rattle.command_line.specs.Described.{Describes}
-use Rattle.command_line.specs.Events.{Asked, AsksFor, IsFirstBadIn}
+use Rattle.command_line.specs.Events.{Asked, AsksFor, IsFirstBadIn, are_some}
 use Rattle.command_line.specs.declared.fault.ScriptFault.{ScriptFault}
 use Rattle.command_line.specs.declared.fault.ScriptFault.TheVariants as fault
 
@@ -17,7 +17,7 @@ pub record IsInput (octets : List ℕ) (network : TopologyFields) (events : Aske
   pub script : List ℕ
   pub parted : IsParted octets document script
   pub described : Describes document network
-  pub asked : AsksFor network.raw events (lines_of script)
+  pub asked : AsksFor network.raw (are_some network.strangers) events (lines_of script)
 
 abbrev pub IsSomeInput : List ℕ → Type 0
 IsSomeInput octets = (network : TopologyFields) × (events : Asked) × IsInput octets network events
@@ -30,7 +30,7 @@ pub record HasBadLine (octets : List ℕ) (number : ℕ) : Type 0 where
   pub network : TopologyFields
   pub parted : IsParted octets document script
   pub described : Describes document network
-  pub bad : IsFirstBadIn network.raw script number
+  pub bad : IsFirstBadIn network.raw (are_some network.strangers) script number
 
 -- what precedes the marker line is not UTF-8, or describes no topology
 pub record HasBadTopology (octets : List ℕ) : Type 0 where
@@ -39,16 +39,16 @@ pub record HasBadTopology (octets : List ℕ) : Type 0 where
   pub parted : IsParted octets document script
   pub unfit : IsUtf8 document → (t : TopologyFields) → ¬ Describes document t
 
+abbrev pub IsNetwork : List ℕ → Type 0
+IsNetwork document = (t : TopologyFields) × Describes document t
+
 -- memory is wanted for what precedes the marker line, where that is UTF-8 and isn't blank, and, once it describes a
 -- network, for all that follows
-pub record WantsMemory (Network : List ℕ → Type 0) (octets : List ℕ) : Type 0 where
+pub record WantsMemory (octets : List ℕ) : Type 0 where
   pub document : List ℕ
   pub script : List ℕ
   pub parted : IsParted octets document script
-  pub wants : (IsUtf8 document × (¬ IsBlank document)) ⊎ Network document
-
-abbrev pub IsNetwork : List ℕ → Type 0
-IsNetwork document = (t : TopologyFields) × Describes document t
+  pub wants : (IsUtf8 document × (¬ IsBlank document)) ⊎ IsNetwork document
 
 -- when each fault may be given for these octets, where no read failed: nothing is written before they are known to be an input
 abbrev pub IsInputFault : List ℕ → ScriptFault → Type 0
@@ -56,6 +56,16 @@ IsInputFault octets (fault.BadLine number) = HasBadLine octets number
 IsInputFault octets fault.TooLong = 268435456 < length octets
 IsInputFault octets fault.BadTopology = (All (λ line. line ≢ codes "%") (lines_of octets)) ⊎ HasBadTopology octets
 IsInputFault octets fault.CannotRead = ⊥
-IsInputFault octets fault.OutOfMemory = WantsMemory IsNetwork octets
+IsInputFault octets fault.OutOfMemory = WantsMemory octets
 IsInputFault octets fault.CannotWrite = IsSomeInput octets
 IsInputFault octets fault.BadOptions = ⊥
+
+-- the same where they are read from a reader: memory may run out before any octet is read
+abbrev pub IsScriptFault : List ℕ → ScriptFault → Type 0
+IsScriptFault octets (fault.BadLine number) = HasBadLine octets number
+IsScriptFault octets fault.TooLong = 268435456 < length octets
+IsScriptFault octets fault.BadTopology = IsInputFault octets fault.BadTopology
+IsScriptFault octets fault.CannotRead = ⊥
+IsScriptFault octets fault.OutOfMemory = Unit {0}
+IsScriptFault octets fault.CannotWrite = IsSomeInput octets
+IsScriptFault octets fault.BadOptions = ⊥

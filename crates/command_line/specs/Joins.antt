@@ -1,6 +1,7 @@
 -- That several outputs are of one replay.
-use Rattle.std.specs.Prelude.{◌≡◌, ℕ, Bool, List, [], ◌++◌, codes}
+use Rattle.std.specs.Prelude.{◌≡◌, ℕ, Bool, List, ◌++◌, codes}
 use Rattle.book_log.specs.Log.{Book, IsLog, lives_of}
+use Rattle.interface.specs.Host.{Host}
 use Rattle.promise.specs.declared.life.Life.{Life}
 use Rattle.replay.specs.declared.print.Detail.{Detail}
 use Rattle.world_replay.specs.Output.{Shown, crossings_of, output}
@@ -17,10 +18,10 @@ pub record PrintTheSame (book other : Bool) (detail more : Detail) (one two : Li
   pub first : one ≡ printed book detail shown lives
   pub second : two ≡ printed other more shown lives
 
--- a log is that of a book with the crossings and the lives that are printed
-pub record TellTheSame (book : Bool) (detail : Detail) (out log : List ℕ) : Type 0 where
+-- a log is that of a book with the crossings and the lives that are printed, and names these strangers
+pub record TellTheSame (strangers : List Host) (book : Bool) (detail : Detail) (out log : List ℕ) : Type 0 where
   pub shown : List Shown
   pub told : Book
   pub prints : out ≡ printed book detail shown (lives_of told)
-  pub logs : IsLog log [] told
+  pub logs : IsLog log strangers told
   pub crossed : told.crossings ≡ crossings_of shown

@@ -17,13 +17,12 @@ use Rattle.replay.specs.declared.print.Detail.{Detail}
 use Rattle.world_replay.specs.Output.{Shown, crossings_of, notices_of, reports_of}
 use Rattle.world_replay.specs.Output as lines
 use Rattle.world_script.specs.declared.event.WorldEvent.{WorldEvent}
-use Rattle.command_line.specs.Either.{ReplaysEither, StopsEither}
 use Rattle.command_line.specs.Joins.{PrintTheSame, TellTheSame}
 use Rattle.command_line.specs.Lived.{AreLived}
 use Rattle.command_line.specs.Logs.{LogsInput}
-use Rattle.command_line.specs.MixedPrinted.{AreOneBookAmong, PrintsBookAmong}
 use Rattle.command_line.specs.Printed.{AreOneBook, PrintsBook, PrintsPart}
-use Rattle.command_line.specs.Replayed.{ReplaysInput, WorldShowsFrom}
+use Rattle.command_line.specs.PrintedAmong.{AreOneBookAmong, PrintsBookAmong}
+use Rattle.command_line.specs.Replayed.{ReplaysInput, StopsInput, WorldShowsFrom}
 
 -- The input determines the output, with the book and without it, with texts and without them. It asks for one list of
 -- events over the carrier of one topology, and neither plain mailboxes nor a subnet leave their replay a choice, without
@@ -31,26 +30,27 @@ use Rattle.command_line.specs.Replayed.{ReplaysInput, WorldShowsFrom}
 pub record OneOutput : Type 0 where
   pub same :
       (book : Bool) (detail : Detail) (input before after other : List ℕ) →
-      ReplaysEither book detail input (Some before) (Some after) →
-      ReplaysEither book detail input (Some before) (Some other) → after ≡ other
+      ReplaysInput book detail input (Some before) (Some after) →
+      ReplaysInput book detail input (Some before) (Some other) → after ≡ other
 
 -- What was written before memory ran out is a prefix of what the whole replay writes.
 pub record FirstPart : Type 0 where
   pub part :
       (book : Bool) (detail : Detail) (input before part whole : List ℕ) →
-      StopsEither detail input (Some before) (Some part) →
-      ReplaysEither book detail input (Some before) (Some whole) → (rest : List ℕ) × (whole ≡ part ++ rest)
+      StopsInput detail input (Some before) (Some part) →
+      ReplaysInput book detail input (Some before) (Some whole) → (rest : List ℕ) × (whole ≡ part ++ rest)
 
 -- The outputs of one input are of one replay. Whether the book and texts are asked for only decides how much of it is
 -- printed; and the log is that of the crossings and the lives that are printed.
 pub record OneReplay : Type 0 where
   pub options :
       (book other : Bool) (detail more : Detail) (input one two : List ℕ) →
-      ReplaysEither book detail input (Some []) (Some one) →
-      ReplaysEither other more input (Some []) (Some two) → PrintTheSame book other detail more one two
+      ReplaysInput book detail input (Some []) (Some one) →
+      ReplaysInput other more input (Some []) (Some two) → PrintTheSame book other detail more one two
   pub log :
-      (book : Bool) (detail : Detail) (input out log : List ℕ) → ReplaysInput book detail input (Some []) (Some out) →
-      LogsInput input (Some []) (Some log) → TellTheSame book detail out log
+      (book : Bool) (detail : Detail) (input out log : List ℕ)
+      (r : ReplaysInput book detail input (Some []) (Some out)) → LogsInput input (Some []) (Some log) →
+      TellTheSame r.network.strangers book detail out log
 
 -- What it means that lines and lives are one book: all that was promised holds of what the lines show.
 pub record OneBook : Type 0 where

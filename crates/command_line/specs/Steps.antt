@@ -1,7 +1,5 @@
 -- What the contracts of private functions say. No public clause cites this file.
-use Rattle.std.specs.Prelude.{◌⊎◌, ℕ, List}
-use Rattle.command_line.specs.Input.{IsInputFault}
-use Rattle.command_line.specs.Mixed.{IsMixedFault}
+use Rattle.std.specs.Prelude.{ℕ, List}
 use Rattle.command_line.specs.declared.fault.ScriptFault.{ScriptFault}
 use Rattle.command_line.specs.declared.fault.ScriptFault.TheVariants as fault
 
@@ -44,13 +42,3 @@ IsEventsFault IsBad text fault.TooLong = ⊥
 IsEventsFault IsBad text fault.BadOptions = ⊥
 IsEventsFault IsBad text fault.CannotRead = ⊥
 IsEventsFault IsBad text fault.CannotWrite = ⊥
-
--- the faults of following octets that were read. Memory is wanted only where an input of one kind or of the other wants it
-abbrev pub IsFollowFault : List ℕ → ScriptFault → Type 0
-IsFollowFault octets fault.OutOfMemory = IsInputFault octets fault.OutOfMemory ⊎ IsMixedFault octets fault.OutOfMemory
-IsFollowFault octets fault.CannotWrite = Unit {0}
-IsFollowFault octets fault.BadTopology = Unit {0}
-IsFollowFault octets fault.TooLong = Unit {0}
-IsFollowFault octets (fault.BadLine number) = Unit {0}
-IsFollowFault octets fault.CannotRead = ⊥
-IsFollowFault octets fault.BadOptions = ⊥

@@ -5,7 +5,7 @@ ghost use Rattle.std.specs.Io.KnownBytes.{IsAtEnd};
 ghost use Rattle.book_log.specs.Log.{IsLog};
 ghost use Rattle.command_line.specs.Audits.{Audited, AuditsLog, IsAuditFault, IsBookFault, IsLogReadFault, IsSomeLog, SaysKept, SaysOf};
 ghost use Rattle.command_line.specs.Audits.{layout_of, status_at, status_said};
-ghost use Rattle.command_line.specs.MixedLogs.{LoggedEither};
+ghost use Rattle.command_line.specs.Logs.{Logged};
 
 use crate::input::CHUNK;
 use crate::judging::judge;
@@ -110,6 +110,7 @@ pub fn audit_status(found: Verdict) -> u8
 
 /// Reads a log, and writes `kept` where its book is safe, what crossed is a run of the mailboxes, its lives are
 /// made of the messages that crossed, and count each of these by the number that it has for a life that they match, those
+/// that send are within what ALLs granted, those
 /// that their partners ended lost nothing, and each has a fate that what
 /// crossed leaves it. Else it writes all that isn't so, a line each, and a word, in this order:
 ///
@@ -118,7 +119,7 @@ pub fn audit_status(found: Verdict) -> u8
 /// - `malformed line N` where line `N` shows that it is no book;
 /// - `broken PART line N` or `broken PART lines M N` for each part of a safe book that fails, with the lines of the
 ///   crossing or of the one or two lives that show it: messages, and of a book that isn't malformed partners, streams
-///   and grants;
+///   and grants, of which a life that sends breaks what ALLs grant;
 /// - `broken sent line N` or `broken sent lines N M`, of such a book, with the lines of the first receiving life that counts
 ///   a message which isn't the one with its number of a life that it matches, and of the one that it matches;
 /// - `broken closes lines N M`, of such a book, with the lines of the first life that its partner ended and that
@@ -162,7 +163,7 @@ pub fn run_audit<R: Source, W: Output>(
     ensures reads_all { result ≢ Err AuditFault.CannotRead → result ≢ Err AuditFault.OutOfMemory → IsAtEnd (R.remaining reader.new) }
 
     // what a replay wrote as its log is read, and is kept, with strangers or without
-    ensures kept { R.failed reader.new ≡ false → IfSome (R.remaining reader.old) (λ octets. LoggedEither (Some []) (Some octets) → SaysKept octets result) }
+    ensures kept { R.failed reader.new ≡ false → IfSome (R.remaining reader.old) (λ octets. Logged (Some []) (Some octets) → SaysKept octets result) }
 
     // where a read or a write fails it is reported, and nowhere else
     ensures cannot_read { (result ≡ Err AuditFault.CannotRead) ↔ (R.failed reader.new ≡ true) }

@@ -1,28 +1,32 @@
-//! Over which carrier a script is replayed, without host programs or with them.
+//! Over which carrier a script is replayed, without host programs or with them, some hosts being strangers or none.
 
-ghost use Rattle.std.specs.Prelude.{◌≡◌, ◌++◌, ◌↔◌, [], codes, Err, IfErr, IfOk, OnOk, false, true};
+ghost use Rattle.std.specs.Prelude.{◌≡◌, ◌++◌, ◌↔◌, [], codes, Err, IfErr, IfOk, None, OnOk, false, true};
 ghost use Rattle.std.specs.Io.KnownBytes.{Appends};
+ghost use Rattle.net_sim.specs.Steps.{absent_in};
 ghost use Rattle.replay.specs.Failing.{TellsFailure};
 ghost use Rattle.replay.specs.Output.{Writes};
 ghost use Rattle.world_replay.specs.Output as lines;
 ghost use Rattle.command_line.specs.Carriers.{ends_of, subnet_of};
 ghost use Rattle.command_line.specs.Events.{asked_of};
-ghost use Rattle.command_line.specs.Replayed.{EndsFrom, EndsOn, ReplaysFrom, ReplaysOn, ShowsFrom, StopsFrom, book_text, WorldShowsFrom, WorldStopsFrom, WritesAll, WritesWorld};
+ghost use Rattle.command_line.specs.Replayed.{EndsFrom, EndsOn, ReplaysFrom, ReplaysOn, ShowsAmong, ShowsFrom};
+ghost use Rattle.command_line.specs.Replayed.{StopsAmong, StopsFrom, book_text, WorldShowsFrom, WorldStopsFrom};
+ghost use Rattle.command_line.specs.Replayed.{WritesAll, WritesWorld};
 ghost use Rattle.command_line.specs.Steps.{IsReplayFault};
 ghost use Rattle.command_line.specs.Stopping.{NothingOr};
 
 use crate::fault::ScriptFault;
 use crate::input::Events;
 use headline::book_of;
-use interface::Carrier;
+use interface::{Carrier, HostAddr};
 use leader1822::PlainBoxes;
-use net_sim::{Life, World};
+use mixed_worlds::book_among;
+use net_sim::{Life, MixedWorld, StrangersFault, World};
 use replay::{Detail, Output, WriteFailed};
 use script::RawEvent;
 use std::alloc::{AllocError, Global};
 use subnet::Subnet;
 use topology::{CarrierKind, LineEnds, Topology};
-use world_replay::print_lives;
+use world_replay::{print_lives, replay_mixed_events};
 use world_script::WorldEvent;
 
 /// Replays events over the carrier that a topology names, plain mailboxes or a subnet. It writes what they
@@ -45,31 +49,27 @@ pub(crate) fn replay_on<W: Output>(
     ensures failed { (result ≡ Err ScriptFault.CannotWrite) ↔ (W.failed writer.new ≡ true) }
     ensures flushed { OnOk result (W.flushed writer.new ≡ true) }
 {
+    let strangers = network.strangers();
     match network.carrier() {
         CarrierKind::Plain => {
             let hosts = network.hosts(alloc)?;
-            replay_over(
-                alloc,
-                PlainBoxes::new(alloc, hosts),
-                events,
-                book,
-                detail,
-                writer,
-            )
+            let carrier = PlainBoxes::new(alloc, hosts);
+            replay_over(alloc, carrier, strangers, events, book, detail, writer)
         }
         CarrierKind::Subnet => {
-            let subnet = subnet_of(alloc, network)?;
-            replay_over(alloc, subnet, events, book, detail, writer)
+            let carrier = subnet_of(alloc, network)?;
+            replay_over(alloc, carrier, strangers, events, book, detail, writer)
         }
     }
 }
 
-/// Replays events over a carrier at its opening, without host programs or with them.
+/// Replays events over a carrier at its opening, without host programs or with them, where these hosts are strangers.
 ///
 /// Errors: `CannotWrite`; `OutOfMemory`, after which a prefix of that is written.
 fn replay_over<C: Carrier, W: Output>(
     alloc: Global,
     carrier: C,
+    strangers: &[HostAddr],
     events: Events,
     book: bool,
     detail: Detail,
@@ -78,15 +78,23 @@ fn replay_over<C: Carrier, W: Output>(
     requires unused { (C.calls.seen carrier).log ≡ [] }
     requires whole { W.failed writer.old ≡ false }
     requires running { (C.calls.seen carrier).stopped ≡ false }
-    ensures replayed { OnOk result (ReplaysFrom C.calls carrier book detail (asked_of events) (W.contents writer.old) (W.contents writer.new)) }
-    ensures stopped { result ≡ Err ScriptFault.OutOfMemory → NothingOr (EndsFrom C.calls carrier detail (asked_of events)) (W.contents writer.old) (W.contents writer.new) }
+    // strangers are hosts of the network
+    requires there { absent_in (C.calls.seen carrier).hosts strangers.now ≡ None }
+    ensures replayed { OnOk result (ReplaysFrom C.calls strangers.now carrier book detail (asked_of events) (W.contents writer.old) (W.contents writer.new)) }
+    ensures stopped { result ≡ Err ScriptFault.OutOfMemory → NothingOr (EndsFrom C.calls strangers.now carrier detail (asked_of events)) (W.contents writer.old) (W.contents writer.new) }
     ensures fault { IfErr result IsReplayFault }
     ensures failed { (result ≡ Err ScriptFault.CannotWrite) ↔ (W.failed writer.new ≡ true) }
     ensures flushed { OnOk result (W.flushed writer.new ≡ true) }
 {
     match events {
         Events::Raw(events) => replay_raw(carrier, &events, detail, writer),
-        Events::World(events) => replay_world(alloc, carrier, events, book, detail, writer),
+        Events::World(events) => {
+            if strangers.is_empty() {
+                replay_world(alloc, carrier, events, book, detail, writer)
+            } else {
+                replay_among(alloc, carrier, strangers, events, book, detail, writer)
+            }
+        }
     }
 }
 
@@ -144,14 +152,49 @@ fn replay_world<C: Carrier, W: Output>(
     }
 }
 
+/// Replays events over a carrier in which these hosts are strangers, and writes what they show, the lives of
+/// connections where the book is asked for, and a last line `end`. The world's book keeps what is promised where there
+/// are strangers, and what is written is what this book has.
+///
+/// Errors: `CannotWrite`; `OutOfMemory`, after which a prefix of that is written.
+fn replay_among<C: Carrier, W: Output>(
+    alloc: Global,
+    carrier: C,
+    strangers: &[HostAddr],
+    events: Vec<WorldEvent>,
+    book: bool,
+    detail: Detail,
+    writer: &mut W,
+) -> Result<(), ScriptFault>
+    requires unused { (C.calls.seen carrier).log ≡ [] }
+    requires whole { W.failed writer.old ≡ false }
+    requires running { (C.calls.seen carrier).stopped ≡ false }
+    // strangers are hosts of the network
+    requires there { absent_in (C.calls.seen carrier).hosts strangers.now ≡ None }
+    ensures replayed { OnOk result (WritesWorld book detail (ShowsAmong C.calls strangers.now carrier events.items) (W.contents writer.old) (W.contents writer.new)) }
+    ensures stopped { result ≡ Err ScriptFault.OutOfMemory → NothingOr (lines.Writes detail (StopsAmong C.calls strangers.now carrier events.items)) (W.contents writer.old) (W.contents writer.new) }
+    ensures fault { IfErr result IsReplayFault }
+    ensures failed { (result ≡ Err ScriptFault.CannotWrite) ↔ (W.failed writer.new ≡ true) }
+    ensures flushed { OnOk result (W.flushed writer.new ≡ true) }
+{
+    let mut world = match MixedWorld::new(alloc, carrier, strangers) {
+        Ok(world) => world,
+        Err(StrangersFault::OutOfMemory) => return Err(ScriptFault::OutOfMemory),
+        Err(StrangersFault::NoSuch(_)) => return Err(ScriptFault::BadTopology),
+    };
+    let outcome = replay_mixed_events(&mut world, events, detail, writer);
+    // that it does is what `book_among` ensures, whether its lives are asked for or not, and however the replay ended
+    let kept = book_among(&world);
+    match outcome {
+        Ok(()) => Ok(write_lives(kept.lives(), book, writer)?),
+        Err(fault) => Err(ScriptFault::from(fault)),
+    }
+}
+
 /// Writes these lives, where the book is asked for, and a last line `end`.
 ///
 /// Errors: `WriteFailed`.
-pub(crate) fn write_lives<W: Output>(
-    lives: &[Life],
-    book: bool,
-    writer: &mut W,
-) -> Result<(), WriteFailed>
+fn write_lives<W: Output>(lives: &[Life], book: bool, writer: &mut W) -> Result<(), WriteFailed>
     requires { W.failed writer.old ≡ false }
     ensures written { OnOk result (Appends (W.contents writer.old) (W.contents writer.new) (book_text book lives.now ++ codes "end\n")) }
     ensures failed { TellsFailure result (W.failed writer.new) }

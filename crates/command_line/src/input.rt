@@ -2,7 +2,7 @@
 
 ghost use Rattle.std.specs.Prelude.{◌≡◌, ◌≢◌, ◌≤◌, Err, IsUtf8, ◌<◌, ◌↔◌, false, length, IfSome, IfOk, IfErr, MatchResult, OnOk, true};
 ghost use Rattle.command_line.specs.Described.{Describes};
-ghost use Rattle.command_line.specs.Events.{AsksFor, IsFirstBadIn, asked_of};
+ghost use Rattle.command_line.specs.Events.{AsksFor, IsFirstBadIn, are_some, asked_of};
 ghost use Rattle.command_line.specs.Input.{IsInput, IsInputFault};
 ghost use Rattle.command_line.specs.Reading.{ReadsAll, ReadsFirst};
 ghost use Rattle.script.specs.Script.{lines_of};
@@ -53,27 +53,27 @@ pub fn read_input(alloc: Global, octets: &[u8]) -> Result<Input, ScriptFault>
         Ok(network) => network,
         Err(fault) => return Err(fault),
     };
-    let events = match read_events(alloc, network.is_raw(), script) {
+    let events = match read_events(alloc, &network, script) {
         Ok(events) => events,
         Err(fault) => return Err(fault),
     };
     Ok(Input { network, events })
 }
 
-/// Returns the events that a script asks for, where its network is raw or has host programs.
+/// Returns the events that a script asks for, of a network that is raw or has host programs, with strangers or without.
 ///
 /// Errors: `BadLine` for the first line that is no event of such a network, `OutOfMemory`.
-fn read_events(alloc: Global, raw: bool, script: &[u8]) -> Result<Events, ScriptFault>
+fn read_events(alloc: Global, network: &Topology, script: &[u8]) -> Result<Events, ScriptFault>
     requires { length script.now ≤ MAX_INPUT }
-    ensures { MatchResult result (λ events. AsksFor raw (asked_of events) (lines_of script.now)) (IsEventsFault (IsFirstBadIn raw) script.now) }
+    ensures { MatchResult result (λ events. AsksFor network.now.raw (are_some network.now.strangers) (asked_of events) (lines_of script.now)) (IsEventsFault (IsFirstBadIn network.now.raw (are_some network.now.strangers)) script.now) }
 {
-    let fault = if raw {
+    let fault = if network.is_raw() {
         match read_script(alloc, script) {
             Ok(events) => return Ok(Events::Raw(events)),
             Err(fault) => fault,
         }
     } else {
-        match read_world_script(alloc, script, false) {
+        match read_world_script(alloc, script, !network.strangers().is_empty()) {
             Ok(events) => return Ok(Events::World(events)),
             Err(fault) => fault,
         }

@@ -3,6 +3,7 @@
 
 ghost use Rattle.std.specs.Prelude.{◌≡◌, ◌↔◌, ◌+◌, ℕ, Bool, true, false, List, [], ◌∷◌, length, reverse};
 ghost use Rattle.std.specs.Prelude.{Ok, Option, Some, None, codes};
+ghost use Rattle.book_judge.specs.Broken.{KeepsGrants};
 ghost use Rattle.book_judge.specs.Fates.{AreSuited};
 ghost use Rattle.book_judge.specs.Lives.{AreMade};
 ghost use Rattle.book_judge.specs.Runs.{IsSomeRun};
@@ -19,7 +20,7 @@ ghost use Rattle.net_sim.specs.declared.auditing.findings.Finding.TheVariants as
 ghost use Rattle.net_sim.specs.declared.auditing.said.Audit.TheVariants as audit;
 ghost use Rattle.promise.specs.Fates.{ClosesWhole};
 ghost use Rattle.promise.specs.Formed.{FormedBook};
-ghost use Rattle.promise.specs.Safe.{SafeGrants, SafePartners};
+ghost use Rattle.promise.specs.Safe.{SafePartners};
 ghost use Rattle.promise.specs.declared.life.Amount.{Amount};
 ghost use Rattle.promise.specs.declared.life.Life.{Life};
 ghost use Rattle.world_keeps_streams.specs.Sent.{EachWasSent};
@@ -27,13 +28,10 @@ ghost use Rattle.replay.specs.declared.print.Detail.{Detail};
 ghost use Rattle.command_line.specs.Audits.{IsKeptLog, IsSafeLog, KeepsEnds, SaysKept, SaysOf, TellsOf, kept, layout_of, place_in};
 ghost use Rattle.command_line.specs.Audits.{found_text, malformed_text, toward_text};
 ghost use Rattle.command_line.specs.Audits.{program_fates, program_lists, program_lives, word_text};
-ghost use Rattle.command_line.specs.Events.{is_raw};
 ghost use Rattle.command_line.specs.Laws.{FirstPart, OneBook, OneOutput, OneReplay, WorkedAmong, WorkedLines, WorkedLives};
 ghost use Rattle.command_line.specs.Lived.{AreLived};
-ghost use Rattle.command_line.specs.Mixed.{RanMixed, RanMixedInPart};
-ghost use Rattle.command_line.specs.MixedLogs.{LoggedEither, LogsEither};
-ghost use Rattle.command_line.specs.MixedPrinted.{PrintsBookAmong, PrintsPartAmong, are_strange};
-ghost use Rattle.command_line.specs.Printed.{PrintsBook, PrintsPart};
+ghost use Rattle.command_line.specs.Logs.{Logged, LogsInput};
+ghost use Rattle.command_line.specs.PrintedAmong.{PrintsOn, PrintsPartOn};
 ghost use Rattle.command_line.specs.Replayed.{Ran, RanInPart};
 ghost use Rattle.command_line.specs.Worked.{here, life_one, there, told_one, took_one};
 ghost use Rattle.command_line.specs.WorkedVerdicts.{IsNeverSaid, NotSaid, matched_past};
@@ -54,7 +52,7 @@ pub fn first_part()
 
 /// The input determines its log.
 pub fn one_log()
-    ensures { (input before after other : List ℕ) → LogsEither input (Some before) (Some after) → LogsEither input (Some before) (Some other) → after ≡ other }
+    ensures { (input before after other : List ℕ) → LogsInput input (Some before) (Some after) → LogsInput input (Some before) (Some other) → after ≡ other }
 {}
 
 /// The outputs of one input are of one replay. Whether the book and texts are asked for only decides how much of it is
@@ -68,12 +66,8 @@ pub fn one_replay()
 /// without host programs there are none. Where memory runs out the lines are still those of such a book. Where some
 /// hosts are strangers, it is the book of the others.
 pub fn printed_books()
-    ensures whole { (book : Bool) (detail : Detail) (before after : Option (List ℕ)) (h : Ran book detail before after) → PrintsBook (is_raw h.events) book detail before after }
-    ensures part { (detail : Detail) (before after : Option (List ℕ)) (h : RanInPart detail before after) → PrintsPart (is_raw h.events) detail before after }
-
-    // some hosts are strangers
-    ensures among { (book : Bool) (detail : Detail) (before after : Option (List ℕ)) (h : RanMixed book detail before after) → PrintsBookAmong (are_strange h.network) book detail before after }
-    ensures among_part { (detail : Detail) (before after : Option (List ℕ)) (h : RanMixedInPart detail before after) → PrintsPartAmong (are_strange h.network) detail before after }
+    ensures whole { (book : Bool) (detail : Detail) (before after : Option (List ℕ)) (h : Ran book detail before after) → PrintsOn h.network h.events book detail before after }
+    ensures part { (detail : Detail) (before after : Option (List ℕ)) (h : RanInPart detail before after) → PrintsPartOn h.network h.events detail before after }
 {}
 
 /// What it means that lines and lives are one book: all that was promised holds of what the lines show.
@@ -113,7 +107,7 @@ pub fn worked_made()
 /// What `--log` writes is a log, of whatever network and events, with strangers or without. Its book is kept, and what
 /// crossed in it is a run of the mailboxes. So whoever reads it comes to this book, and to this verdict.
 pub fn logs_are_kept()
-    ensures { (octets : List ℕ) → LoggedEither (Some []) (Some octets) → IsKeptLog octets }
+    ensures { (octets : List ℕ) → Logged (Some []) (Some octets) → IsKeptLog octets }
 {}
 
 /// What an audit names is broken, and what it doesn't name holds. A malformed book has requests that nothing names, so
@@ -127,7 +121,7 @@ pub fn named_parts()
     ensures messages { (hosts : List Host) (b : log.Book) (v : Verdict) → SaysOf v hosts b → (v.messages ≡ None) ↔ SafeMessages (reverse b.crossings) }
     ensures partners { TellsOf (λ v. v.partners) (λ hosts b. SafePartners (reverse b.crossings) (program_lives hosts b)) }
     ensures streams { TellsOf (λ v. v.streams) (λ hosts b. AreFed (reverse b.crossings) (program_lives hosts b) (program_lives hosts b) (program_lists hosts b)) }
-    ensures grants { TellsOf (λ v. v.grants) (λ hosts b. SafeGrants (reverse b.crossings) (program_lives hosts b)) }
+    ensures grants { TellsOf (λ v. v.grants) (λ hosts b. KeepsGrants (reverse b.crossings) (program_lives hosts b)) }
     ensures sent { TellsOf (λ v. v.sent) (λ hosts b. EachWasSent (reverse b.crossings) (program_lives hosts b)) }
     ensures closes { TellsOf (λ v. v.closes) (λ hosts b. ClosesWhole (reverse b.crossings) (program_lives hosts b) (program_lists hosts b) (program_fates hosts b)) }
     ensures fates { (hosts : List Host) (b : log.Book) (v : Verdict) → SaysOf v hosts b → (v.unsuited ≡ None) ↔ AreSuited (reverse b.crossings) (program_lives hosts b) (program_fates hosts b) }

@@ -2,20 +2,15 @@
 
 ghost use Rattle.std.specs.Prelude.{◌≡◌, ◌≢◌, ◌≤◌, ◌⊎◌, ◌↔◌, length, None, Err, true, false, codes, IfSome, IfErr, MatchResult, OnOk};
 ghost use Rattle.std.specs.Io.KnownBytes.{Appends};
-ghost use Rattle.command_line.specs.Either.{IsEitherFault, IsEitherInput, RanEither, RanEitherInPart, ReplaysEither, StopsEither, StopsKnown};
-ghost use Rattle.command_line.specs.Input.{IsInputFault};
-ghost use Rattle.command_line.specs.Mixed.{IsMixedFault, IsSomeMixed, MixedReplaysInput, MixedStopsInput};
+ghost use Rattle.command_line.specs.Input.{IsInputFault, IsScriptFault, IsSomeInput};
 ghost use Rattle.command_line.specs.Options.{IfDetail, IfOptions, IfReplayed, options_in};
 ghost use Rattle.command_line.specs.Reading.{ReadsAll, ReadsFirst};
-ghost use Rattle.command_line.specs.Replayed.{ReplaysInput, StopsInput};
-ghost use Rattle.command_line.specs.Input.{IsSomeInput};
-ghost use Rattle.command_line.specs.Steps.{IsFollowFault};
+ghost use Rattle.command_line.specs.Replayed.{Ran, RanInPart, ReplaysInput, StopsInput, StopsKnown};
 ghost use Rattle.command_line.specs.Stopping.{NothingOr};
 
 use crate::carriers::{replay_on, write_last};
 use crate::fault::ScriptFault;
 use crate::input::{Input, read_input, read_octets};
-use crate::mixed::{MixedInput, read_mixed_input, replay_mixed_on};
 use crate::options::{Options, OptionsFault};
 use crate::source::Source;
 use replay::{Detail, Output};
@@ -50,10 +45,10 @@ pub fn run<R: Source, W: Output>(
     // without it a script is replayed over the carrier of a topology, whatever the reader: in a world whose book keeps
     // the promise and of which all is written; or without host programs, where what crosses is a log that every host
     // may rely on; or among strangers, where the book keeps what is promised to hosts with programs
-    ensures ran { IfReplayed words.now (λ book detail. OnOk result (RanEither book detail (W.contents writer.old) (W.contents writer.new))) }
+    ensures ran { IfReplayed words.now (λ book detail. OnOk result (Ran book detail (W.contents writer.old) (W.contents writer.new))) }
 
     // and of a reader whose octets are known these are the script and the topology that were read
-    ensures replayed { IfReplayed words.now (λ book detail. OnOk result (IfSome (R.remaining reader.old) (λ octets. ReplaysEither book detail octets (W.contents writer.old) (W.contents writer.new)))) }
+    ensures replayed { IfReplayed words.now (λ book detail. OnOk result (IfSome (R.remaining reader.old) (λ octets. ReplaysInput book detail octets (W.contents writer.old) (W.contents writer.new)))) }
 
     // the reader is asked for the first octets only, and for an octet more than an input may have at most; unless a
     // read fails or memory runs out, it is asked for all of them
@@ -61,7 +56,7 @@ pub fn run<R: Source, W: Output>(
     ensures reads_all { IfOptions words.now (λ options. result ≢ Err ScriptFault.CannotRead → result ≢ Err ScriptFault.OutOfMemory → ReadsAll (R.remaining reader.old) (R.remaining reader.new)) }
 
     // what is read is an input, or the first fault is given
-    ensures read { IfOptions words.now (λ options. R.failed reader.new ≡ false → IfSome (R.remaining reader.old) (λ octets. MatchResult result (λ _. IsEitherInput octets) (IsEitherFault octets))) }
+    ensures read { IfOptions words.now (λ options. R.failed reader.new ≡ false → IfSome (R.remaining reader.old) (λ octets. MatchResult result (λ _. IsSomeInput octets) (IsScriptFault octets))) }
 
     // where a read or a write fails it is reported, and nowhere else; by each call's `requires`, no more is asked of
     // what failed
@@ -75,7 +70,7 @@ pub fn run<R: Source, W: Output>(
     ensures untouched { IfErr result (λ f. f ≢ ScriptFault.CannotWrite → f ≢ ScriptFault.OutOfMemory → writer.new ≡ writer.old) }
 
     // after memory has run out the output is a prefix of what the replay would write
-    ensures ran_in_part { result ≡ Err ScriptFault.OutOfMemory → IfDetail words.now (λ detail. NothingOr (RanEitherInPart detail) (W.contents writer.old) (W.contents writer.new)) }
+    ensures ran_in_part { result ≡ Err ScriptFault.OutOfMemory → IfDetail words.now (λ detail. NothingOr (RanInPart detail) (W.contents writer.old) (W.contents writer.new)) }
     ensures first_part { result ≡ Err ScriptFault.OutOfMemory → IfDetail words.now (λ detail. StopsKnown detail (R.remaining reader.old) (W.contents writer.old) (W.contents writer.new)) }
 {
     match Options::read(alloc, words) {
@@ -126,10 +121,10 @@ pub fn run_script<R: Source, W: Output>(
     // without it a script is replayed over the carrier of a topology, whatever the reader: in a world whose book keeps
     // the promise and of which all is written; or without host programs, where what crosses is a log that every host
     // may rely on; or among strangers, where the book keeps what is promised to hosts with programs
-    ensures ran { check ≡ false → OnOk result (RanEither book detail (W.contents writer.old) (W.contents writer.new)) }
+    ensures ran { check ≡ false → OnOk result (Ran book detail (W.contents writer.old) (W.contents writer.new)) }
 
     // and of a reader whose octets are known these are the script and the topology that were read
-    ensures replayed { check ≡ false → OnOk result (IfSome (R.remaining reader.old) (λ octets. ReplaysEither book detail octets (W.contents writer.old) (W.contents writer.new))) }
+    ensures replayed { check ≡ false → OnOk result (IfSome (R.remaining reader.old) (λ octets. ReplaysInput book detail octets (W.contents writer.old) (W.contents writer.new))) }
     ensures options { IfErr result (λ f. f ≢ ScriptFault.BadOptions) }
 
     // the reader is asked for the first octets only, and for an octet more than an input may have at most; unless a
@@ -138,7 +133,7 @@ pub fn run_script<R: Source, W: Output>(
     ensures reads_all { result ≢ Err ScriptFault.CannotRead → result ≢ Err ScriptFault.OutOfMemory → ReadsAll (R.remaining reader.old) (R.remaining reader.new) }
 
     // what is read is an input, or the first fault is given
-    ensures read { R.failed reader.new ≡ false → IfSome (R.remaining reader.old) (λ octets. MatchResult result (λ _. IsEitherInput octets) (IsEitherFault octets)) }
+    ensures read { R.failed reader.new ≡ false → IfSome (R.remaining reader.old) (λ octets. MatchResult result (λ _. IsSomeInput octets) (IsScriptFault octets)) }
 
     // where a read or a write fails it is reported, and nowhere else; by each call's `requires`, no more is asked of
     // what failed
@@ -152,7 +147,7 @@ pub fn run_script<R: Source, W: Output>(
     ensures untouched { IfErr result (λ f. f ≢ ScriptFault.CannotWrite → f ≢ ScriptFault.OutOfMemory → writer.new ≡ writer.old) }
 
     // after memory has run out the output is a prefix of what the replay would write
-    ensures ran_in_part { result ≡ Err ScriptFault.OutOfMemory → NothingOr (RanEitherInPart detail) (W.contents writer.old) (W.contents writer.new) }
+    ensures ran_in_part { result ≡ Err ScriptFault.OutOfMemory → NothingOr (RanInPart detail) (W.contents writer.old) (W.contents writer.new) }
     ensures first_part { result ≡ Err ScriptFault.OutOfMemory → StopsKnown detail (R.remaining reader.old) (W.contents writer.old) (W.contents writer.new) }
 
     // with `check` nothing is written when memory runs out
@@ -162,8 +157,7 @@ pub fn run_script<R: Source, W: Output>(
     follow(alloc, &octets, book, check, detail, writer)
 }
 
-/// Replays the input that octets are, or only reads it, with strangers or without. What is no input without strangers
-/// may be one with them.
+/// Replays the input that octets are, or only reads it.
 ///
 /// Errors: `BadTopology`, `BadLine`, `CannotWrite`, `OutOfMemory`, as [`run_script`].
 fn follow<W: Output>(
@@ -177,55 +171,20 @@ fn follow<W: Output>(
     requires short { length octets.now ≤ MAX_INPUT }
     requires writes { W.failed writer.old ≡ false }
     ensures checked { check ≡ true → OnOk result (Appends (W.contents writer.old) (W.contents writer.new) (codes "ok\n")) }
-    ensures replayed { check ≡ false → OnOk result (ReplaysEither book detail octets.now (W.contents writer.old) (W.contents writer.new)) }
-    ensures read { MatchResult result (λ _. IsEitherInput octets.now) (IsEitherFault octets.now) }
-    ensures stopped { result ≡ Err ScriptFault.OutOfMemory → NothingOr (StopsEither detail octets.now) (W.contents writer.old) (W.contents writer.new) }
+    ensures replayed { check ≡ false → OnOk result (ReplaysInput book detail octets.now (W.contents writer.old) (W.contents writer.new)) }
+    ensures read { OnOk result (IsSomeInput octets.now) }
+    ensures stopped { result ≡ Err ScriptFault.OutOfMemory → NothingOr (StopsInput detail octets.now) (W.contents writer.old) (W.contents writer.new) }
     ensures check_memory { check ≡ true → result ≡ Err ScriptFault.OutOfMemory → writer.new ≡ writer.old }
-    ensures fault { IfErr result (IsFollowFault octets.now) }
+    ensures fault { IfErr result (IsInputFault octets.now) }
     ensures failed { (result ≡ Err ScriptFault.CannotWrite) ↔ (W.failed writer.new ≡ true) }
     ensures flushed { OnOk result (W.flushed writer.new ≡ true) }
     ensures untouched { IfErr result (λ f. f ≢ ScriptFault.CannotWrite → f ≢ ScriptFault.OutOfMemory → writer.new ≡ writer.old) }
 {
-    match read_input(alloc, octets) {
-        Ok(Input { network, events }) => {
-            if check {
-                write_ok(writer)
-            } else {
-                replay_on(alloc, &network, events, book, detail, writer)
-            }
-        }
-        Err(ScriptFault::BadTopology) => follow_mixed(alloc, octets, book, check, detail, writer),
-        Err(fault) => Err(fault),
-    }
-}
-
-/// Replays the input of a network with strangers that octets are, or only reads it.
-///
-/// Errors: `BadTopology`, `BadLine`, `CannotWrite`, `OutOfMemory`, as [`run_script`].
-fn follow_mixed<W: Output>(
-    alloc: Global,
-    octets: &[u8],
-    book: bool,
-    check: bool,
-    detail: Detail,
-    writer: &mut W,
-) -> Result<(), ScriptFault>
-    requires short { length octets.now ≤ MAX_INPUT }
-    requires writes { W.failed writer.old ≡ false }
-    ensures checked { check ≡ true → OnOk result (Appends (W.contents writer.old) (W.contents writer.new) (codes "ok\n")) }
-    ensures replayed { check ≡ false → OnOk result (MixedReplaysInput book detail octets.now (W.contents writer.old) (W.contents writer.new)) }
-    ensures read { MatchResult result (λ _. IsSomeMixed octets.now) (IsMixedFault octets.now) }
-    ensures stopped { result ≡ Err ScriptFault.OutOfMemory → NothingOr (MixedStopsInput detail octets.now) (W.contents writer.old) (W.contents writer.new) }
-    ensures check_memory { check ≡ true → result ≡ Err ScriptFault.OutOfMemory → writer.new ≡ writer.old }
-    ensures failed { (result ≡ Err ScriptFault.CannotWrite) ↔ (W.failed writer.new ≡ true) }
-    ensures flushed { OnOk result (W.flushed writer.new ≡ true) }
-    ensures untouched { IfErr result (λ f. f ≢ ScriptFault.CannotWrite → f ≢ ScriptFault.OutOfMemory → writer.new ≡ writer.old) }
-{
-    let MixedInput { network, events } = read_mixed_input(alloc, octets)?;
+    let Input { network, events } = read_input(alloc, octets)?;
     if check {
         write_ok(writer)
     } else {
-        replay_mixed_on(alloc, &network, events, book, detail, writer)
+        replay_on(alloc, &network, events, book, detail, writer)
     }
 }
 

@@ -36,5 +36,6 @@ well_formed log lives handed f s = record {
       });
 }
 
-pub kept_promise : (hosts : List Host) (k : Kept) → KeepsPromise hosts k → Says said.Kept k.book.crossings k.book.lives k.handed
-kept_promise hosts k p = (well_formed k.book.crossings k.book.lives k.handed p.formed p.safe, p.safe)
+pub kept_promise : (hosts : List Host) (log : List Crossing) (stopped : Bool) (k : Kept)
+    → KeepsPromise hosts log stopped k → Says said.Kept k.book.crossings k.book.lives k.handed
+kept_promise hosts log stopped k p = (well_formed k.book.crossings k.book.lives k.handed p.formed p.safe, p.safe)

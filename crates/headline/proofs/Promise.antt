@@ -19,7 +19,7 @@ use Rattle.world_keeps_lives.proofs.lemmas.{world_drained, world_handed, world_t
 use Rattle.world_keeps_lives.proofs.lemmas.AllOurs.{lives_all}
 use Rattle.world_keeps_pairing.proofs.lemmas.{book_lives, book_run, world_alone, world_partners}
 use Rattle.world_keeps_streams.specs.Granted.{EachIsWithin}
-use Rattle.world_keeps_streams.proofs.lemmas.{world_agrees, world_answered, world_arrived, world_arrives, world_calms, world_came, world_closes, world_comes, world_contacts, world_ended, world_firsts, world_formed, world_handed_over, world_over, world_rests, world_sent, world_settles, world_source, world_was_sent, world_within}
+use Rattle.world_keeps_streams.proofs.lemmas.{world_agrees, world_answered, world_arrived, world_arrives, world_between, world_calms, world_came, world_closes, world_comes, world_contacts, world_ended, world_firsts, world_formed, world_handed_over, world_over, world_rests, world_sent, world_settles, world_source, world_was_sent, world_within}
 
 -- what is left of a run without its newest crossings is one
 older_run : (hosts : List Host) (more log : List Crossing) → IsRun hosts (more ++ log) → IsRun hosts log
@@ -65,10 +65,16 @@ within_grants law seen w lawful =
     }))))
 
 -- what the book of a lawful world keeps. That each life is within its grants is so of any network
-pub keeps : Among → {C : Type 0} (seen : C → Seen) (w : WorldState C) → IsLawful seen (seen w.carrier).hosts w → KeepsPromise (seen w.carrier).hosts w.kept
+pub keeps : Among → {C : Type 0} (seen : C → Seen) (w : WorldState C) → IsLawful seen (seen w.carrier).hosts w → KeepsPromise (seen w.carrier).hosts (seen w.carrier).log w.stopped w.kept
 keeps among seen w lawful =
     let hosts : List Host = (seen w.carrier).hosts in
     record {
+      booked = record {
+        unbooked = lawful.booked.unbooked;
+        parts = lawful.booked.book;
+        all = lawful.booked.all;
+        one = lawful.booked.one;
+      };
       run = world_run seen w lawful;
       formed = world_formed seen hosts w lawful;
       told = world_told seen hosts w lawful;
@@ -93,9 +99,12 @@ keeps among seen w lawful =
       contacts = world_contacts seen hosts w lawful;
       within = world_within seen hosts w lawful;
       sent = world_was_sent seen hosts w lawful;
+      between = world_between seen hosts w lawful;
       granted = within_grants among seen w lawful;
     }
 
 -- a world keeps the promise by what a call says of the book that it gives
-pub world_keeps : {C : Type 0} (seen : C → Seen) (w : WorldState C) (k : Kept) → k ≡ w.kept → KeepsPromise (seen w.carrier).hosts k → IsExact seen w → WorldKeeps seen w
-world_keeps seen w k is book exact = record { book = subst (KeepsPromise (seen w.carrier).hosts) is book; exact = exact }
+pub world_keeps : {C : Type 0} (seen : C → Seen) (w : WorldState C) (k : Kept) → k ≡ w.kept
+    → KeepsPromise (seen w.carrier).hosts (seen w.carrier).log w.stopped k → IsExact seen w → WorldKeeps seen w
+world_keeps seen w k is book exact =
+    record { book = subst (KeepsPromise (seen w.carrier).hosts (seen w.carrier).log w.stopped) is book; exact = exact }

@@ -1,9 +1,11 @@
 -- What `book_of` says of a world: the promise of its book, and what the programs of all hosts do.
-use Rattle.std.specs.Prelude.{List}
+use Rattle.std.specs.Prelude.{◌≡◌, Bool, false, List, [], ◌++◌}
 use Rattle.interface.specs.Calls.{Seen}
 use Rattle.interface.specs.Host.{Host}
 use Rattle.interface.specs.Mailboxes.{IsRun}
+use Rattle.interface.specs.declared.crossing.Crossing.{Crossing}
 use Rattle.net_sim.specs.Book.{Kept}
+use Rattle.net_sim.specs.Carriers.{AreOfOneEvent}
 use Rattle.net_sim.specs.Clean.{IsLawful}
 use Rattle.net_sim.specs.World.{WorldState}
 use Rattle.promise.specs.Arrived.{ArrivedBook}
@@ -17,6 +19,7 @@ use Rattle.world_keeps_lives.specs.Drained.{AllDrained}
 use Rattle.world_keeps_lives.specs.Firsts.{FirstBook}
 use Rattle.world_keeps_streams.specs.Answered.{AllAnswered}
 use Rattle.world_keeps_streams.specs.Arrivals.{AllArrive, AllCome}
+use Rattle.world_keeps_streams.specs.Between.{EachIsBetween}
 use Rattle.world_keeps_streams.specs.Came.{AllCame}
 use Rattle.world_keeps_streams.specs.Closes.{AllClose, AllHanded}
 use Rattle.world_keeps_streams.specs.Rests.{AllAgree, AllCalm, AllRest}
@@ -25,10 +28,20 @@ use Rattle.world_keeps_streams.specs.Sent.{EachWasSent}
 use Rattle.world_keeps_streams.specs.Settled.{EachAgrees, HasSettled}
 use Rattle.world_keeps_streams.specs.Within.{CountNothingLater}
 
--- What is promised of a book between these hosts: of what crossed, the notices, the contacts, the lives and their fates. No
--- host program occurs in it
-pub record KeepsPromise (hosts : List Host) (k : Kept) : Type 0 where
-  -- what crossed is a run of the mailboxes
+-- a book has all that is in a network's log, except, once memory has run out, for what crossed in the one event in which
+-- it did
+pub record HasLog (log : List Crossing) (stopped : Bool) (crossings : List Crossing) : Type 0 where
+  pub unbooked : List Crossing
+  pub parts : log ≡ unbooked ++ crossings
+  pub all : stopped ≡ false → unbooked ≡ []
+  pub one : AreOfOneEvent unbooked
+
+-- What is promised of a book between the hosts of a network with this log, and once memory has stopped it or before: of
+-- what crossed, the notices, the contacts, the lives and their fates. No host program occurs in it
+pub record KeepsPromise (hosts : List Host) (log : List Crossing) (stopped : Bool) (k : Kept) : Type 0 where
+  -- what crossed is what the network's log has
+  pub booked : HasLog log stopped k.book.crossings
+  -- and it is a run of the mailboxes
   pub run : IsRun hosts k.book.crossings
   -- each life is made of messages that crossed
   pub formed : FormedBook k.book.crossings k.book.lives
@@ -52,6 +65,8 @@ pub record KeepsPromise (hosts : List Host) (k : Kept) : Type 0 where
   pub within : CountNothingLater k.book.contacts k.book.crossings k.book.lives
   -- the k-th message that a receiving life counts is the k-th of the life that it matches
   pub sent : EachWasSent k.book.crossings k.book.lives
+  -- each message of data is one of a sending life, which a receiving life matches
+  pub between : EachIsBetween k.book.crossings k.book.lives
   -- what a sending life sent is within what the ALLs grant on its link that its host took
   pub granted : EachIsWithin k.book.crossings k.book.lives
 
@@ -75,5 +90,5 @@ pub record IsExact {C : Type 0} (seen : C → Seen) (w : WorldState C) : Type 0 
 
 -- the book of a world keeps the promise, and the world is exact: what `book_of` says of a world
 pub record WorldKeeps {C : Type 0} (seen : C → Seen) (w : WorldState C) : Type 0 where
-  pub book : KeepsPromise (seen w.carrier).hosts w.kept
+  pub book : KeepsPromise (seen w.carrier).hosts (seen w.carrier).log w.stopped w.kept
   pub exact : IsExact seen w

@@ -15,7 +15,7 @@ use net_sim::{Book, World};
 /// what their users asked for.
 pub fn book_of<C: Carrier>(world: &World<C>) -> Book<'_>
     ensures value { result ≡ world.now.kept }
-    ensures promise { KeepsPromise (C.calls.seen world.now.carrier).hosts result }
+    ensures promise { KeepsPromise (C.calls.seen world.now.carrier).hosts (C.calls.seen world.now.carrier).log world.now.stopped result }
     ensures lawful { IsExact C.calls.seen world.now }
 {
     among();

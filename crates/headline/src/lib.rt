@@ -2,7 +2,8 @@
 //!
 //! [`book_of`] ensures it. All that a reader must believe of it is in the crate `promise`, with the mailboxes and the
 //! reading of texts, to which its first page leads; but
-//! `CountNothingLater` and `EachWasSent`, in `specs/Within.antt` and `specs/Sent.antt` of `world_keeps_streams`.
+//! `CountNothingLater`, `EachWasSent` and `EachIsBetween`, in `specs/Within.antt`, `specs/Sent.antt` and `specs/Between.antt`
+//! of `world_keeps_streams`.
 //! What the clause `lawful` says beside it needs the rules of a host's program.
 //!
 //! Each part is proved in a crate of its own: the messages in `net_sim`, the partners in `world_keeps_pairing`, what is about only one host
@@ -13,6 +14,7 @@
 
 mod audits;
 mod book;
+pub mod worked;
 
 pub use audits::audit_of;
 pub use book::book_of;

@@ -26,4 +26,4 @@ pub from_line_fresh : (s : State) (k : ℕ) (f : Frame) (p : PacketFields) → (
 from_line_fresh s k f p up answer kept =
     at_live_end s k f up
     ∙ (ap (λ (r : Result Received ChannelFault). taken_frame r k f s) answer
-    ∙ fresh_with_room k f p s (room_of_fresh (answer_to (port_at s.ports k).line f) s p answer kept))
+    ∙ fresh_with_room k f p s (room_of_fresh _ s p answer kept))

@@ -12,8 +12,8 @@ pub use Rattle.imp_node.specs.Contents.{messages, packets, packets_in_channels}
 pub use Rattle.imp_node.specs.Examples.{flow, host}
 pub use Rattle.imp_node.specs.Inside.Arriving.{lost_by}
 pub use Rattle.imp_node.specs.Inside.Parts.{IsPacketFlow}
-pub use Rattle.imp_node.specs.Lines.{end_down, end_up, on_port, resend, resent_by, resent_from, route, told_from}
-pub use Rattle.imp_node.specs.Offering.{Away, Here, Nowhere, Way, from_host, offered, way_of}
+pub use Rattle.imp_node.specs.Lines.{claim, end_down, end_up, on_port, resend, resent_by, resent_from, route, told_from}
+pub use Rattle.imp_node.specs.Offering.{Away, Here, Nowhere, Way, from_host, offered}
 pub use Rattle.imp_node.specs.Pump.{pump}
 pub use Rattle.imp_node.specs.Queries.{is_request, last, outstanding}
 pub use Rattle.imp_node.specs.Room.{has_route}

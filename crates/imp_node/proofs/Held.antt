@@ -1,6 +1,6 @@
 -- A property of every packet: what holds of all packets in an IMP before a call, of what comes in and of what is made, holds of
 -- all packets in it and in its frames after the call. Here: the pump, and what calls are made of.
-use Rattle.imp_node.proofs.Common.{Flow, Answer, Release, PacketFields, Content, Frame, Table, next_of, Outgoing, Port, State, ImpTurn, port_at, has_route}
+use Rattle.imp_node.proofs.Common.{Flow, Answer, Release, PacketFields, Content, Frame, Table, next_of, Outgoing, Port, State, ImpTurn, port_at}
 use Rattle.std.proofs.Common.{ℕ, zero, suc, Bool, true, false, List, [], ◌∷◌, ◌++◌, Option, Some, None, cond, All, Contains}
 use Rattle.std.proofs.lemmas.List.Elements.{All-nil, All-cons, All-head, All-tail, All-append, All-push, All-set, All-weaker, All-contains}
 use Rattle.link_table.specs.declared.source.Release.TheVariants as release
@@ -8,7 +8,7 @@ use Rattle.packetiser.specs.Slots as slots
 use Rattle.packetiser.specs.Rejoining.{AreAmong}
 use Rattle.packetiser.proofs.lemmas.{All_left, All_right, added_only, discarded_only}
 use Rattle.imp_channel.specs.Holding as channels
-use Rattle.imp_channel.specs.Line.{End, submitted}
+use Rattle.imp_channel.specs.Line.{End}
 use Rattle.imp_channel.specs.declared.frame.Content.TheVariants as content
 use Rattle.imp_channel.proofs.lemmas.{ContentHas, LineHas, PutHas, have_packets, opening_has, packets_have, submitted_has}
 use Rattle.imp_node.specs.Pump.{Pumped, target, stored, sent_on, packet_sent, pumped, pump}
@@ -39,26 +39,26 @@ pub record TurnHas (P : PacketFields → Type 0) (turn : ImpTurn) : Type 0 where
 channels_have : (P : PacketFields → Type 0) (ports : List Port) → All (PortHas P) ports → All P (packets_in_channels ports)
 channels_have P [] has = All-nil P
 channels_have P (port ∷ ports) has =
-    All-append P (channels.packets_in port.line.sending) (packets_in_channels ports) (packets_have P port.line.sending (All-head (PortHas P) port ports has)) (channels_have P ports (All-tail (PortHas P) port ports has))
+    All-append P (channels.packets_in port.line.sending) (packets_in_channels ports) (packets_have P _ (All-head (PortHas P) port ports has)) (channels_have P ports (All-tail (PortHas P) port ports has))
 
 have_channels : (P : PacketFields → Type 0) (ports : List Port) → All P (packets_in_channels ports) → All (PortHas P) ports
 have_channels P [] all = All-nil (PortHas P)
 have_channels P (port ∷ ports) all =
-    All-cons (PortHas P) port ports (have_packets P port.line.sending (All_left P (channels.packets_in port.line.sending) (packets_in_channels ports) all)) (have_channels P ports (All_right P (channels.packets_in port.line.sending) (packets_in_channels ports) all))
+    All-cons (PortHas P) port ports (have_packets P _ (All_left P _ _ all)) (have_channels P ports (All_right P _ _ all))
 
 pub packets_has : (P : PacketFields → Type 0) (s : State) → Has P s → All P (packets s)
 packets_has P s h =
     All-append P s.store (packets_in_channels s.ports ++ slots.packets_in s.slots) h.store
-    (All-append P (packets_in_channels s.ports) (slots.packets_in s.slots) (channels_have P s.ports h.lines) h.slots)
+    (All-append P (packets_in_channels s.ports) (slots.packets_in s.slots) (channels_have P _ h.lines) h.slots)
 
 pub has_packets : (P : PacketFields → Type 0) (s : State) → All P (packets s) → Has P s
 has_packets P s all =
     let rest : List PacketFields = packets_in_channels s.ports ++ slots.packets_in s.slots in
-    let others : All P rest = All_right P s.store rest all in
+    let others : All P rest = All_right P _ rest all in
     record {
-      store = All_left P s.store rest all;
-      lines = have_channels P s.ports (All_left P (packets_in_channels s.ports) (slots.packets_in s.slots) others);
-      slots = All_right P (packets_in_channels s.ports) (slots.packets_in s.slots) others;
+      store = All_left P _ rest all;
+      lines = have_channels P _ (All_left P _ _ others);
+      slots = All_right P _ _ others;
     }
 
 content_has : (P : PacketFields → Type 0) (brings : Content) → ContentHas P brings → All P (channels.carried_by brings)
@@ -69,10 +69,10 @@ content_has P (content.Routes distances) here = All-nil P
 pub frames_has : (P : PacketFields → Type 0) (frames : List Outgoing) → All (OutgoingHas P) frames → All P (packets_on frames)
 frames_has P [] has = All-nil P
 frames_has P (out ∷ frames) has =
-    All-append P (channels.carried_by out.frame.content) (packets_on frames) (content_has P out.frame.content (All-head (OutgoingHas P) out frames has)) (frames_has P frames (All-tail (OutgoingHas P) out frames has))
+    All-append P (channels.carried_by out.frame.content) (packets_on frames) (content_has P _ (All-head (OutgoingHas P) out frames has)) (frames_has P frames (All-tail (OutgoingHas P) out frames has))
 
 pub turn_has : (P : PacketFields → Type 0) (turn : ImpTurn) → TurnHas P turn → All P (turn_packets turn)
-turn_has P turn h = All-append P (packets turn.state) (packets_on turn.frames) (packets_has P turn.state h.state) (frames_has P turn.frames h.frames)
+turn_has P turn h = All-append P (packets turn.state) (packets_on turn.frames) (packets_has P _ h.state) (frames_has P _ h.frames)
 
 -- ---- the pump
 
@@ -97,13 +97,13 @@ sent_on_has P ports k p (Some (end, frame)) has here put = record {
 sent_has : (P : PacketFields → Type 0) (ports : List Port) (p : PacketFields) (next : Option ℕ) → All (PortHas P) ports → P p → PumpedHas P (packet_sent ports p next)
 sent_has P ports p None has here = record { ports = has; waits = All-nil P; frames = All-nil (OutgoingHas P) }
 sent_has P ports p (Some k) has here =
-    sent_on_has P ports k p (submitted (port_at ports k).line p) has here (submitted_has P (port_at ports k).line p (port_has P ports k has) here)
+    sent_on_has P ports k p _ has here (submitted_has P _ p (port_has P ports k has) here)
 
 pumped_has : (P : PacketFields → Type 0) (routes : Table) (ports : List Port) (ps : List PacketFields) → All (PortHas P) ports → All P ps → PumpedHas P (pumped routes ports ps)
 pumped_has P routes ports [] has all = record { ports = has; waits = All-nil P; frames = All-nil (OutgoingHas P) }
 pumped_has P routes ports (p ∷ ps) has all =
     let one : Pumped = packet_sent ports p (next_of routes (target p)) in
-    let here : PumpedHas P one = sent_has P ports p (next_of routes (target p)) has (All-head P p ps all) in
+    let here : PumpedHas P one = sent_has P ports p _ has (All-head P p ps all) in
     let rest : PumpedHas P (pumped routes one.ports ps) = pumped_has P routes one.ports ps here.ports (All-tail P p ps all) in
     record {
       ports = rest.ports;
@@ -113,7 +113,7 @@ pumped_has P routes ports (p ∷ ps) has all =
 
 pub pump_has : (P : PacketFields → Type 0) (frames : List Outgoing) (s : State) → All (OutgoingHas P) frames → Has P s → TurnHas P (pump frames s)
 pump_has P frames s sent h =
-    let w : PumpedHas P (pumped s.routes s.ports s.store) = pumped_has P s.routes s.ports s.store h.lines h.store in
+    let w : PumpedHas P (pumped s.routes s.ports s.store) = pumped_has P _ _ _ h.lines h.store in
     record {
       state = record { store = w.waits; lines = w.ports; slots = h.slots };
       frames = All-append (OutgoingHas P) frames (pumped s.routes s.ports s.store).frames sent w.frames;
@@ -126,7 +126,7 @@ quiet_has P s h = pump_has P [] s (All-nil (OutgoingHas P)) h
 -- ---- the steps of calls
 
 pub stored_has : (P : PacketFields → Type 0) (p : PacketFields) (s : State) → P p → Has P s → Has P (stored p s)
-stored_has P p s here h = record { store = All-append P s.store _ h.store (at (has_route s (target p))); lines = h.lines; slots = h.slots } where
+stored_has P p s here h = record { store = All-append P s.store _ h.store (at _); lines = h.lines; slots = h.slots } where
   at : (b : Bool) → All P (cond b (p ∷ []) [])
   at true = All-cons P p [] here (All-nil P)
   at false = All-nil P
@@ -140,7 +140,7 @@ among_have : (P : PacketFields → Type 0) (ps qs : List PacketFields) → AreAm
 among_have P ps qs among all = All-weaker (Contains qs) P (λ p there. All-contains P qs p all there) ps among
 
 pub added_has : (P : PacketFields → Type 0) (p : PacketFields) (held : List slots.SlotState) → P p → All P (slots.packets_in held) → All P (slots.packets_in (slots.added held p))
-added_has P p held here all = among_have P (slots.packets_in (slots.added held p)) (slots.packets_in held ++ p ∷ []) (added_only held p) (All-push P (slots.packets_in held) p all here)
+added_has P p held here all = among_have P _ _ (added_only held p) (All-push P (slots.packets_in held) p all here)
 
 pub without_has : (P : PacketFields → Type 0) (f : Flow) (held : List slots.SlotState) → All P (slots.packets_in held) → All P (slots.packets_in (slots.without held f))
-without_has P f held all = among_have P (slots.packets_in (slots.without held f)) (slots.packets_in held) (discarded_only held f) all
+without_has P f held all = among_have P _ _ (discarded_only held f) all

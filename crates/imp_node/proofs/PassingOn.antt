@@ -5,7 +5,7 @@ use Rattle.std.proofs.Common.{◌≡◌, ℕ, Bool, true, false, not, List, ◌�
 use Rattle.std.proofs.lemmas.Bool.{eqb-true, and_parts}
 use Rattle.imp_channel.specs.declared.line.Received.TheVariants as received
 use Rattle.imp_node.specs.Arrival.{Arrival, Passing, arrival, arrival_by, arrival_has_room, arrived, acknowledged, frame_taken, from_line}
-use Rattle.imp_node.specs.Pump.{target, packet_sent, pump, pumped}
+use Rattle.imp_node.specs.Pump.{target, packet_sent, pump}
 use Rattle.imp_node.specs.Resting.{brings_passing, passes}
 use Rattle.imp_node.specs.Room.{has_room_to}
 use Rattle.imp_node.specs.Turns.{from_line_grows}
@@ -52,7 +52,7 @@ record Goes (s : State) (p : PacketFields) : Type 0 where
 goes : (s : State) (p : PacketFields) → (not (target p == number s) && has_room_to s (target p)) ≡ true → Goes s p
 goes s p is =
     let both = and_parts (not (target p == number s)) (has_room_to s (target p)) is in
-    record { passing = ap (λ (b : Bool). if b then arrival_by p.kind s p else Passing) (not_true (target p == number s) both.0); room = both.1 }
+    record { passing = ap (λ (b : Bool). if b then arrival_by p.kind s p else Passing) (not_true _ both.0); room = both.1 }
 
 goes_on : (s : State) (k : ℕ) (f : Frame) (p : PacketFields) → passes s k f ≡ true → answer_to (port_at s.ports k).line f ≡ Ok (received.Fresh p) → Goes s p
 goes_on s k f p is answer = goes s p (subst (λ (r : Result Received ChannelFault). brings_passing r s ≡ true) answer (is_passing s k f is).brings)
@@ -76,7 +76,7 @@ passed_on s new k f p ack on is answer back after sent =
     let facts : IsPassing s k f = is_passing s k f is in
     let t : State = frame_taken k f s in
     let to : Goes s p = goes_on s k f p is answer in
-    from_line_fresh s k f p facts.up answer (kept s p (answer_to (port_at s.ports k).line f) answer to)
+    from_line_fresh s k f p facts.up answer (kept s p _ answer to)
     ∙ (ap (λ (a : Arrival). pump (acknowledged k t) (arrived a p t)) to.passing
     ∙ (passed (acknowledged k t) t p facts.waits
     ∙ (ap (λ (frames : List Outgoing). record {
@@ -92,5 +92,5 @@ passing_grows s k f p is answer =
     let facts : IsPassing s k f = is_passing s k f is in
     let t : State = frame_taken k f s in
     let to : Goes s p = goes_on s k f p is answer in
-    ap (λ (turn : ImpTurn). nat_lt 0 (length turn.frames)) (from_line_fresh s k f p facts.up answer (kept s p (answer_to (port_at s.ports k).line f) answer to))
-    ∙ some_sent (record { port = k; frame = acknowledgement (port_at t.ports k).line }) (pumped (arrived (arrival s p) p t).routes (arrived (arrival s p) p t).ports (arrived (arrival s p) p t).store).frames
+    ap (λ (turn : ImpTurn). nat_lt 0 (length turn.frames)) (from_line_fresh s k f p facts.up answer (kept s p _ answer to))
+    ∙ some_sent (record { port = k; frame = acknowledgement (port_at t.ports k).line }) _

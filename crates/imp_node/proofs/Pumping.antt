@@ -15,7 +15,7 @@ none_of (Some k) none = cc
 -- a packet whose line has no free channel stays
 pub stays : (ports : List Port) (p : PacketFields) (k : ℕ) → is_none (position is_free (port_at ports k).line.sending) ≡ true → packet_sent ports p (Some k) ≡ sent_on ports 0 p None
 unfolding submitted
-stays ports p k full = ap (λ (o : Option ℕ). sent_on ports k p (submitted_on (port_at ports k).line p o)) (none_of (position is_free (port_at ports k).line.sending) full)
+stays ports p k full = ap (λ (o : Option ℕ). sent_on ports k p (submitted_on (port_at ports k).line p o)) (none_of _ full)
 
 -- what the pump comes to over packets of which the first stays
 skipped : (routes : Table) (ports : List Port) (store : List PacketFields) (at : ℕ) (x : PacketFields) → at < length store → x ≡ get_or store at x
@@ -52,7 +52,7 @@ all_stay routes ports (p ∷ ps) all =
     ∙ ap (and_then (sent_on ports 0 p None)) (all_stay routes ports ps all.1)
 
 pub stuck_rests : (s : State) → AllByRecursion (λ p. packet_sent s.ports p (next_of s.routes (target p)) ≡ sent_on s.ports 0 p None) s.store → pump [] s ≡ ignored s
-stuck_rests s all = ap (λ (done : Pumped). record { state = record s { ports = done.ports; store = done.waits }; frames = done.frames }) (all_stay s.routes s.ports s.store all)
+stuck_rests s all = ap (λ (done : Pumped). record { state = record s { ports = done.ports; store = done.waits }; frames = done.frames }) (all_stay _ _ _ all)
 
 -- a packet that is stored where none waits goes at once
 pub no_packets : (store : List PacketFields) → length store ≡ 0 → store ≡ []
@@ -68,7 +68,7 @@ sent_at_once : (routes : Table) (ports : List Port) (p : PacketFields) (o : Opti
 sent_at_once routes ports p None at = refl
 sent_at_once routes ports p (Some k) at =
     ap (λ (o : Option ℕ). and_then (packet_sent ports p o) (record { ports = (packet_sent ports p o).ports; waits = []; frames = [] })) at
-    ∙ none_after (packet_sent ports p (Some k))
+    ∙ none_after _
 
 pub passed : (frames : List Outgoing) (s : State) (p : PacketFields) → length s.store ≡ 0
     → pump frames (stored p s) ≡ record {
@@ -77,5 +77,5 @@ pub passed : (frames : List Outgoing) (s : State) (p : PacketFields) → length 
     }
 passed frames s p none =
     ap (λ (done : Pumped). record { state = record s { ports = done.ports; store = done.waits }; frames = frames ++ done.frames })
-    (ap (λ (ps : List PacketFields). pumped s.routes s.ports (ps ++ (if has_route s (target p) then p ∷ [] else []))) (no_packets s.store none)
-    ∙ sent_at_once s.routes s.ports p (next_of s.routes (target p)) refl)
+    (ap (λ (ps : List PacketFields). pumped s.routes s.ports (ps ++ (if has_route s (target p) then p ∷ [] else []))) (no_packets _ none)
+    ∙ sent_at_once _ _ p _ refl)

@@ -57,7 +57,7 @@ stays_by true false idle any room fails accepted = cc
 stays_by false up idle any room fails accepted = cc
 
 pub begins_refusal : (s : State) (m : HostMessage) → begins s m.flow ≡ true → from_host_refusal s m ≡ (if way_has_room (way_of s m.flow) s m then None else Some fault.NoRoom)
-begins_refusal s m holds_so = begun_by (is_own s m.flow.source) (is_up s m.flow.source.host) (is_idle s m.flow) (goes (way_of s m.flow)) (way_has_room (way_of s m.flow) s m) holds_so
+begins_refusal s m holds_so = begun_by _ _ _ _ _ holds_so
 
 number_by : (way : Way) (m : HostMessage) (s t : State) → OfferMoves way m s t → goes way ≡ true → last t m.flow ≡ Some (next_number s m.flow)
 number_by Nowhere m s t moved holds_so = cc
@@ -66,8 +66,8 @@ number_by Away m s t moved holds_so = ap (λ (side : Sender). side.last) moved.s
 
 pub begins_number : (s : State) (m : HostMessage) → begins s m.flow ≡ true → last (from_host s m).state m.flow ≡ Some (next_number s m.flow)
 begins_number s m holds_so =
-    number_by (way_of s m.flow) m s (from_host s m).state (from_host_moves s m)
-    (goes_by (is_own s m.flow.source) (is_up s m.flow.source.host) (is_idle s m.flow) (goes (way_of s m.flow)) holds_so)
+    number_by _ m s _ (from_host_moves s m)
+    (goes_by (is_own s m.flow.source) (is_up s _) (is_idle s m.flow) _ holds_so)
 
 no_number_by : (way : Way) (m : HostMessage) (s t : State) → OfferMoves way m s t → goes way ≡ false → last t m.flow ≡ last s m.flow
 no_number_by Nowhere m s t moved fails = ap (λ (side : Sender). side.last) moved.sender
@@ -76,5 +76,5 @@ no_number_by Away m s t moved fails = cc
 
 pub begins_nothing : (s : State) (m : HostMessage) → begins s m.flow ≡ false → from_host_refusal s m ≡ None → last (from_host s m).state m.flow ≡ last s m.flow
 begins_nothing s m fails accepted =
-    no_number_by (way_of s m.flow) m s (from_host s m).state (from_host_moves s m)
-    (stays_by (is_own s m.flow.source) (is_up s m.flow.source.host) (is_idle s m.flow) (goes (way_of s m.flow)) (way_has_room (way_of s m.flow) s m) fails accepted)
+    no_number_by _ m s _ (from_host_moves s m)
+    (stays_by _ _ _ _ _ fails accepted)

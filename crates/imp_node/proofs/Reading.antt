@@ -31,4 +31,4 @@ pub stale_with : (s : Option Standing) (n : ℕ) → (outstanding_in s ≡ Some 
 stale_with None n e = refl
 stale_with (Some (standing.Idle l)) n e = refl
 stale_with (Some (standing.Answered l)) n e = refl
-stale_with (Some (standing.Outstanding l)) n e = stale_by (l == n) l n refl e
+stale_with (Some (standing.Outstanding l)) n e = stale_by _ l n refl e

@@ -2,7 +2,7 @@
 use Rattle.imp_node.proofs.Common.{nat_tests, PacketFields, Channel, Frame, packet_of, packets_in, Content, ChannelFault, Received, vector_of, Outgoing, Port, Message, Told, on_port, resent_by, resent_from, resend, told_from, route}
 use Rattle.std.specs.Prelude.{if◌then◌else◌, not, is_some}
 use Rattle.std.specs.List.{sum_by}
-use Rattle.std.proofs.Common.{◌≡◌, ℕ, ◌+◌, ◌<◌, Bool, true, false, zero, suc, List, [], ◌∷◌, ◌++◌, length, map, get_or, set, nat_lt, ◌==◌, ◌&&◌, Option, Some, None, Result, Ok, Err, refl, ap, sym, ◌∙◌, arith}
+use Rattle.std.proofs.Common.{◌≡◌, ℕ, ◌+◌, ◌<◌, Bool, true, false, zero, suc, List, [], ◌∷◌, ◌++◌, length, map, get_or, set, ◌==◌, ◌&&◌, Option, Some, None, Result, Ok, Err, refl, ap, sym, ◌∙◌, arith}
 use Rattle.std.proofs.lemmas.Bool.{eqb-true}
 use Rattle.std.proofs.lemmas.List.{append-nil, length-append, set-get_or}
 use Rattle.std.proofs.lemmas.List.Sums.{sum_by-cons}
@@ -10,7 +10,7 @@ use Rattle.interface.specs.declared.carrier.CarrierFault.TheVariants as fault
 use Rattle.imp_channel.specs.declared.frame.Content.TheVariants as content
 use Rattle.imp_channel.specs.declared.fault.ChannelFault.TheVariants as channel_fault
 use Rattle.imp_channel.specs.declared.line.Received.TheVariants as received
-use Rattle.imp_channel.specs.Line.{End, frames_of, frames_from, resent, differs, acknowledged, all_acknowledged, acknowledgement, is_foreign, has_expected_bit, state_after, answer_to, is_repeat_answer}
+use Rattle.imp_channel.specs.Line.{End, frames_of, frames_from, differs, acknowledged, all_acknowledged, acknowledgement, state_after, answer_to, is_repeat_answer}
 use Rattle.imp_node.specs.State.{State, ImpTurn, host_at, port_at, down_port, with_port}
 use Rattle.imp_node.specs.Arrival.{ignored, taken_frame, frame_taken, vector_heard, from_line}
 use Rattle.imp_node.specs.Pump.{pump, pumped}
@@ -39,7 +39,7 @@ rests frames s (p ∷ ps) none = absurd (omega (arith, none))
 
 -- where no packet waits, the pump does nothing
 pub pump_with : (frames : List Outgoing) (s : State) → length s.store ≡ 0 → pump frames s ≡ leaving s frames
-pump_with frames s none = rests frames s s.store none
+pump_with frames s none = rests frames s _ none
 
 pub pump_rests : (s : State) → length s.store ≡ 0 → pump [] s ≡ ignored s
 pump_rests s none = pump_with [] s none
@@ -66,14 +66,14 @@ port_none false k frames none = refl
 
 -- a port without a busy channel sends nothing again
 pub none_resent : (k : ℕ) (port : Port) → length (packets_in port.line.sending) ≡ 0 → resent_by k port ≡ []
-none_resent k port none = port_none port.up k (resent port.line) (frames_none port.line 0 port.line.sending none)
+none_resent k port none = port_none port.up k _ (frames_none port.line 0 port.line.sending none)
 
 -- ports without a busy channel send nothing again
 none_sent : (k : ℕ) (ports : List Port) → sum_by busy_channels ports ≡ 0 → resent_from k ports ≡ []
 none_sent k [] none = refl
 none_sent k (port ∷ ports) none =
     let both : sum_by busy_channels (port ∷ ports) ≡ length (packets_in port.line.sending) + sum_by busy_channels ports = sum_by-cons busy_channels port ports in
-    ap (λ (frames : List Outgoing). frames ++ resent_from (k + 1) ports) (port_none port.up k (resent port.line) (frames_none port.line 0 port.line.sending (omega (arith, none, both))))
+    ap (λ (frames : List Outgoing). frames ++ resent_from (k + 1) ports) (port_none _ k _ (frames_none port.line 0 port.line.sending (omega (arith, none, both))))
     ∙ none_sent (k + 1) ports (omega (arith, none, both))
 
 record StoresNone (s : State) : Type 0 where
@@ -93,7 +93,7 @@ resending_rests s none =
 
 -- where no packet waits it sends its distances, and nothing else
 pub telling_alone : (s : State) → length s.store ≡ 0 → route s ≡ leaving s (told_from (vector_of s.routes) 0 s.ports)
-telling_alone s none = pump_with (told_from (vector_of s.routes) 0 s.ports) s none
+telling_alone s none = pump_with _ s none
 
 pub telling_rests : (s : State) → holds_packet s ≡ false → route s ≡ leaving s (told_from (vector_of s.routes) 0 s.ports)
 telling_rests s none = telling_alone s (stores_none s none).waits
@@ -110,10 +110,10 @@ all_free : (acks : List Bool) (channels : List Channel) → length (packets_in c
 all_free acks [] none = refl
 all_free [] (channel ∷ rest) none =
     let both : length (packet_of channel.packet ++ packets_in rest) ≡ length (packet_of channel.packet) + length (packets_in rest) = length-append (packet_of channel.packet) (packets_in rest) in
-    ap (λ (x : Channel). x ∷ all_acknowledged [] rest) (one_free false channel channel.packet refl (omega (arith, none, both))) ∙ ap (λ (xs : List Channel). channel ∷ xs) (all_free [] rest (omega (arith, none, both)))
+    ap (λ (x : Channel). x ∷ all_acknowledged [] rest) (one_free false channel _ refl (omega (arith, none, both))) ∙ ap (λ (xs : List Channel). channel ∷ xs) (all_free [] rest (omega (arith, none, both)))
 all_free (ack ∷ acks) (channel ∷ rest) none =
     let both : length (packet_of channel.packet ++ packets_in rest) ≡ length (packet_of channel.packet) + length (packets_in rest) = length-append (packet_of channel.packet) (packets_in rest) in
-    ap (λ (x : Channel). x ∷ all_acknowledged acks rest) (one_free ack channel channel.packet refl (omega (arith, none, both))) ∙ ap (λ (xs : List Channel). channel ∷ xs) (all_free acks rest (omega (arith, none, both)))
+    ap (λ (x : Channel). x ∷ all_acknowledged acks rest) (one_free ack channel _ refl (omega (arith, none, both))) ∙ ap (λ (xs : List Channel). channel ∷ xs) (all_free acks rest (omega (arith, none, both)))
 
 port_free : (ports : List Port) (k : ℕ) → sum_by busy_channels ports ≡ 0 → length (packets_in (port_at ports k).line.sending) ≡ 0
 port_free [] k none = refl
@@ -130,7 +130,7 @@ taken_again : (s : State) (k : ℕ) (acks : List Bool) → IsIdle s k
     → set s.ports k (record (port_at s.ports k) { line = record (port_at s.ports k).line { sending = all_acknowledged acks (port_at s.ports k).line.sending } }) ≡ s.ports
 taken_again s k acks idle =
     let line : End = (port_at s.ports k).line in
-    ap (λ (channels : List Channel). set s.ports k (record (port_at s.ports k) { line = record line { sending = channels } })) (all_free acks line.sending idle.free) ∙ set-get_or s.ports k down_port
+    ap (λ (channels : List Channel). set s.ports k (record (port_at s.ports k) { line = record line { sending = channels } })) (all_free acks _ idle.free) ∙ set-get_or s.ports k down_port
 
 -- where the pump does nothing, distances that were heard last do nothing when they are heard again, nor does any frame at an end that is down
 pub routes_again : (up : Bool) (s : State) (k : ℕ) (acks : List Bool) (distances : List ℕ) → IsIdle s k → (up ≡ true → get_or s.routes.heard k None ≡ Some distances)
@@ -139,8 +139,8 @@ routes_again false s k acks distances idle heard = refl
 routes_again true s k acks distances idle heard =
     let routes : set s.routes.heard k (Some distances) ≡ s.routes.heard = ap (set s.routes.heard k) (sym (heard refl)) ∙ set-get_or s.routes.heard k None in
     let same : vector_heard k distances (frame_taken k (record { acks = acks; content = content.Routes distances }) s) ≡ s =
-    ap (λ (ports : List Port). record s { ports = ports; routes = record { own = s.routes.own; heard = set s.routes.heard k (Some distances) } }) (taken_again s k acks idle)
-    ∙ ap (λ (heard : List (Option (List ℕ))). record s { routes = record { own = s.routes.own; heard = heard } }) routes in
+    ap (λ (ports : List Port). record s { ports = ports; routes = record s.routes { heard = set s.routes.heard k (Some distances) } }) (taken_again s k acks idle)
+    ∙ ap (λ (heard : List (Option (List ℕ))). record s { routes = record s.routes { heard = heard } }) routes in
     ap (λ (t : State). pump [] t) same ∙ idle.waits
 
 -- an IMP without packets that hears again what it heard last does nothing
@@ -148,7 +148,7 @@ pub hears_again : (s : State) (k : ℕ) (acks : List Bool) (distances : List ℕ
     → from_line s k (record { acks = acks; content = content.Routes distances }) ≡ ignored s
 hears_again s k acks distances none heard =
     let are : StoresNone s = stores_none s none in
-    routes_again (port_at s.ports k).up s k acks distances (record { waits = pump_rests s are.waits; free = port_free s.ports k are.free }) heard
+    routes_again _ s k acks distances (record { waits = pump_rests s are.waits; free = port_free _ k are.free }) heard
 
 -- ---- a frame of which only acknowledgement bits matter
 
@@ -159,16 +159,16 @@ quiet_down s k f down = ap (λ (up : Bool). if up then taken_frame (answer_to (p
 known_taken : (s : State) (k : ℕ) (acks : List Bool) (brings : Content) → length s.store ≡ 0 → IsKnown s k brings
     → taken_frame (answer_to (port_at s.ports k).line (record { acks = acks; content = brings })) k (record { acks = acks; content = brings }) s ≡ ignored (with_acks k acks s)
 known_taken s k acks (content.Packet carried) waits known = absurd known
-known_taken s k acks content.Nothing waits known = pump_rests (with_acks k acks s) waits
+known_taken s k acks content.Nothing waits known = pump_rests _ waits
 known_taken s k acks (content.Routes distances) waits known =
     let routes : set s.routes.heard k (Some distances) ≡ s.routes.heard = ap (set s.routes.heard k) (sym known) ∙ set-get_or s.routes.heard k None in
-    ap (λ (heard : List (Option (List ℕ))). pump [] (record (with_acks k acks s) { routes = record { own = s.routes.own; heard = heard } })) routes
-    ∙ pump_rests (with_acks k acks s) waits
+    ap (λ (heard : List (Option (List ℕ))). pump [] (record (with_acks k acks s) { routes = record s.routes { heard = heard } })) routes
+    ∙ pump_rests _ waits
 
 pub quiet_taken : (s : State) (k : ℕ) (f : Frame) → (port_at s.ports k).up ≡ true → (length s.store == 0) ≡ true → IsKnown s k f.content → from_line s k f ≡ ignored (with_acks k f.acks s)
 quiet_taken s k f up waits known =
     ap (λ (up : Bool). if up then taken_frame (answer_to (port_at s.ports k).line f) k f s else ignored s) up
-    ∙ known_taken s k f.acks f.content (eqb-true (length s.store) 0 waits) known
+    ∙ known_taken s k f.acks _ (eqb-true (length s.store) 0 waits) known
 
 -- ---- a frame that brings a packet which was given before
 
@@ -187,7 +187,7 @@ by_tests false false e acks next packet is = refl
 
 repeat_state : (e : End) (acks : List Bool) (brings : Content) → is_repeat_answer (answer_to e (record { acks = acks; content = brings })) ≡ true → state_after e (record { acks = acks; content = brings }) ≡ record e { sending = all_acknowledged acks e.sending }
 repeat_state e acks (content.Packet carried) is =
-    by_tests (is_foreign (content.Packet carried)) (has_expected_bit e.expected carried) e acks (set e.expected carried.channel (not carried.bit)) carried.packet is
+    by_tests _ _ e acks _ _ is
 repeat_state e acks content.Nothing is = cc
 repeat_state e acks (content.Routes distances) is = cc
 
@@ -201,13 +201,13 @@ pub repeat_taken : (s : State) (k : ℕ) (f : Frame) → is_repeat s k f ≡ tru
     → from_line s k f ≡ leaving (with_acks k f.acks s) (record { port = k; frame = acknowledgement (port_at (with_acks k f.acks s).ports k).line } ∷ [])
 repeat_taken s k f is =
     let line : End = (port_at s.ports k).line in
-    let all = and_three (port_at s.ports k).up (length s.store == 0) (is_repeat_answer (answer_to line f)) is in
+    let all = and_three _ _ _ is in
     let waits : length s.store ≡ 0 = eqb-true (length s.store) 0 all.1 in
     let same : frame_taken k f s ≡ with_acks k f.acks s = ap (λ (e : End). with_port s k (record (port_at s.ports k) { line = e })) (repeat_state line f.acks f.content all.2) in
     ap (λ (up : Bool). if up then taken_frame (answer_to line f) k f s else ignored s) all.0
-    ∙ ap (λ (r : Result Received ChannelFault). taken_frame r k f s) (repeat_told (answer_to line f) all.2)
+    ∙ ap (λ (r : Result Received ChannelFault). taken_frame r k f s) (repeat_told _ all.2)
     ∙ ap (λ (t : State). pump (arrivals.acknowledged k t) t) same
-    ∙ pump_with (arrivals.acknowledged k (with_acks k f.acks s)) (with_acks k f.acks s) waits
+    ∙ pump_with _ _ waits
 
 -- ---- a taking
 
@@ -231,9 +231,9 @@ accepts false up room is_there is_up has = cc
 
 pub taking_still : (s : State) (h : ℕ) → h < length s.hosts → (host_at s h).up ≡ true → is_some (next_for s h) ≡ false → pump [] s ≡ ignored s → Rests s h
 taking_still s h there up none still =
-    let nothing = takes_none (host_at s h).answers (host_at s h).queue s h none in
+    let nothing = takes_none _ _ s h none in
     record {
-      accepted = accepts (nat_lt h (length s.hosts)) (host_at s h).up (taking_has_room (host_at s h).answers (host_at s h).queue s) (grind (arith, nat_tests, there)) up nothing.0;
+      accepted = accepts _ _ _ (grind (arith, nat_tests, there)) up nothing.0;
       nothing = nothing.1;
       unchanged = ap (λ (t : State). pump [] t) nothing.2 ∙ still;
     }

@@ -30,13 +30,13 @@ any_in_channels q (ch ∷ chs) =
 
 -- nothing is found where nothing is
 pub none_in_channels : (q : Sought) (chs : List Channel) → length (channels.packets_in chs) ≡ 0 → list_any (packet_is q) (channels.packets_in chs) ≡ false
-none_in_channels q chs none = none_in q (channels.packets_in chs) none
+none_in_channels q chs none = none_in q _ none
 
 pub any_in_ports : (q : Sought) (ports : List Port) → list_any (packet_is q) (packets_in_channels ports) ≡ list_any (λ port. list_any (packet_is q) (channels.packets_in port.line.sending)) ports
-any_in_ports q ports = any_flat (packet_is q) (λ port. channels.packets_in port.line.sending) ports
+any_in_ports q ports = any_flat _ _ ports
 
 pub any_in_queues : (q : Sought) (hosts : List HostState) → list_any (message_is q) (flat_map (λ h. h.queue) hosts) ≡ list_any (λ h. list_any (message_is q) h.queue) hosts
-any_in_queues q hosts = any_flat (message_is q) (λ h. h.queue) hosts
+any_in_queues q hosts = any_flat _ _ hosts
 
 -- a slot holds pieces of one message, at least one: so one of them is sought where the message is
 abbrev pub slot_is : Sought → SlotState → Bool
@@ -53,21 +53,21 @@ or_itself false b c e h = h
 
 all_alike : (q : Sought) (s : SlotState) (ps : List PacketFields) → 0 < length ps → All (IsPieceFor s.flow s.number) ps → list_any (packet_is q) ps ≡ slot_is q s
 all_alike q s [] some of = absurd (omega arith)
-all_alike q s (p ∷ []) some of = or_nothing (packet_is q p) ∙ piece_is q s p (of 0 p (omega arith))
+all_alike q s (p ∷ []) some of = or_nothing _ ∙ piece_is q s p (of 0 p (omega arith))
 all_alike q s (p ∷ r ∷ ps) some of =
-    or_itself (packet_is q p) (list_any (packet_is q) (r ∷ ps)) (slot_is q s) (piece_is q s p (of 0 p (omega arith)))
+    or_itself _ _ _ (piece_is q s p (of 0 p (omega arith)))
     (all_alike q s (r ∷ ps) (omega arith) (λ k d within. of (suc k) d (omega arith)))
 
 slots_alike : (q : Sought) (table : List SlotState) → All IsSlot table → list_any (λ s. list_any (packet_is q) s.pieces) table ≡ list_any (slot_is q) table
 slots_alike q [] sound = refl
 slots_alike q (s ∷ table) sound =
     let slot : IsSlot s = sound 0 s (omega arith) in
-    ap (λ (b : Bool). b || list_any (λ t. list_any (packet_is q) t.pieces) table) (all_alike q s s.pieces slot.some slot.pieces)
+    ap (λ (b : Bool). b || list_any (λ t. list_any (packet_is q) t.pieces) table) (all_alike q s _ slot.some slot.pieces)
     ∙ ap (λ (b : Bool). slot_is q s || b) (slots_alike q table (λ k d within. sound (suc k) d (omega arith)))
 
 pub any_in_slots : (q : Sought) (table : List SlotState) → IsTable table → list_any (packet_is q) (slots.packets_in table) ≡ list_any (slot_is q) (in_some_order table)
 any_in_slots q table is =
-    any_flat (packet_is q) (λ s. s.pieces) table ∙ (slots_alike q table is.sound ∙ sym (list_any-IsPermutation (slot_is q) (in_some_order table) table (named_once table)))
+    any_flat _ _ table ∙ (slots_alike q table is.sound ∙ sym (list_any-IsPermutation (slot_is q) (in_some_order table) table (named_once table)))
 
 -- the slots from one on
 pub slot_step : (q : Sought) (order : List SlotState) (k : ℕ) (held : Held) → Some held ≡ option_map (λ s. record { flow = s.flow; number = s.number }) (slice_get order k)

@@ -12,7 +12,7 @@ some_by e c bit (Some p) rest others some = omega arith
 
 frames_some : (e : End) (c : ℕ) (channels : List Channel) → 0 < length (packets_in channels) → 0 < length (frames_from e c channels)
 frames_some e c [] some = some
-frames_some e c (channel ∷ rest) some = some_by e c channel.bit channel.packet rest (frames_some e (c + 1) rest) some
+frames_some e c (channel ∷ rest) some = some_by e c _ _ rest (frames_some e (c + 1) rest) some
 
 -- one channel more
 pub again_more : (k : ℕ) (e : End) (i : ℕ) (done : List Outgoing) → i < length e.sending
@@ -23,7 +23,7 @@ again_more k e i done within =
     let rest : List Frame = frames_from e (i + 1) (drop (i + 1) e.sending) in
     append_assoc done (map (on_port k) first) (map (on_port k) rest)
     ∙ ap (λ (l : List Outgoing). done ++ l) (sym (map-append (on_port k) first rest))
-    ∙ ap (λ (chs : List Channel). done ++ map (on_port k) (frames_from e i chs)) (sym (drop_more e.sending i opening_channel within))
+    ∙ ap (λ (chs : List Channel). done ++ map (on_port k) (frames_from e i chs)) (sym (drop_more _ i opening_channel within))
 
 -- a live port with a busy channel sends again
 pub resent_some : (k : ℕ) (port : Port) → port.up ≡ true → 0 < length (packets_in port.line.sending) → 0 < length (resent_by k port)

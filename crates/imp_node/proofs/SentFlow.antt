@@ -9,31 +9,31 @@ use Rattle.link_table.proofs.lemmas.{get_answered, get_begun, get_given_up, get_
 -- the state of the flow, step by step
 pub is_begun : finite.get (begun finite.empty (flow (host 0 1) (host 0 2) 7)) (flow (host 0 1) (host 0 2) 7) ≡ Some (standing.Outstanding 0)
 is_begun =
-    get_begun finite.empty (flow (host 0 1) (host 0 2) 7) (flow (host 0 1) (host 0 2) 7)
+    get_begun _ _ _
     ∙ ap (λ (s : Option Standing). Some (standing.Outstanding (number_in s))) (finite.get-empty flow_cmp (flow (host 0 1) (host 0 2) 7))
 
 pub is_answered : finite.get (flow_answered (begun finite.empty (flow (host 0 1) (host 0 2) 7)) (flow (host 0 1) (host 0 2) 7) 0) (flow (host 0 1) (host 0 2) 7) ≡ Some (standing.Answered 0)
 is_answered =
-    get_answered (begun finite.empty (flow (host 0 1) (host 0 2) 7)) (flow (host 0 1) (host 0 2) 7) (flow (host 0 1) (host 0 2) 7) 0
+    get_answered _ _ _ 0
     ∙ ap (option_map (answered_in 0)) is_begun
 
 pub is_taken : finite.get (handed (flow_answered (begun finite.empty (flow (host 0 1) (host 0 2) 7)) (flow (host 0 1) (host 0 2) 7) 0) (flow (host 0 1) (host 0 2) 7)) (flow (host 0 1) (host 0 2) 7) ≡ Some (standing.Idle 0)
 is_taken =
-    get_handed (flow_answered (begun finite.empty (flow (host 0 1) (host 0 2) 7)) (flow (host 0 1) (host 0 2) 7) 0) (flow (host 0 1) (host 0 2) 7) (flow (host 0 1) (host 0 2) 7)
+    get_handed _ _ _
     ∙ ap (option_map handed_in) is_answered
 
 pub is_given_up : finite.get (given_up (begun finite.empty (flow (host 0 1) (host 0 2) 7)) (flow (host 0 1) (host 0 2) 7)) (flow (host 0 1) (host 0 2) 7) ≡ Some (standing.Answered 0)
 is_given_up =
-    get_given_up (begun finite.empty (flow (host 0 1) (host 0 2) 7)) (flow (host 0 1) (host 0 2) 7) (flow (host 0 1) (host 0 2) 7)
+    get_given_up _ _ _
     ∙ ap (option_map given_up_in) is_begun
 
 pub is_idle_again : finite.get (handed (given_up (begun finite.empty (flow (host 0 1) (host 0 2) 7)) (flow (host 0 1) (host 0 2) 7)) (flow (host 0 1) (host 0 2) 7)) (flow (host 0 1) (host 0 2) 7) ≡ Some (standing.Idle 0)
 is_idle_again =
-    get_handed (given_up (begun finite.empty (flow (host 0 1) (host 0 2) 7)) (flow (host 0 1) (host 0 2) 7)) (flow (host 0 1) (host 0 2) 7) (flow (host 0 1) (host 0 2) 7)
+    get_handed _ _ _
     ∙ ap (option_map handed_in) is_given_up
 
 -- and of one within an IMP
 pub is_begun_within : finite.get (begun finite.empty (flow (host 0 1) (host 1 1) 7)) (flow (host 0 1) (host 1 1) 7) ≡ Some (standing.Outstanding 0)
 is_begun_within =
-    get_begun finite.empty (flow (host 0 1) (host 1 1) 7) (flow (host 0 1) (host 1 1) 7)
+    get_begun _ _ _
     ∙ ap (λ (s : Option Standing). Some (standing.Outstanding (number_in s))) (finite.get-empty flow_cmp (flow (host 0 1) (host 1 1) 7))

@@ -85,7 +85,7 @@ told_outstanding true m f g = refl
 told_outstanding false m f g = handed_outstanding m f g
 
 told_answers : (kind : Answer) (f : Flow) (s : State) → answers_of f (host_at (answer_queued kind f s) f.source.host).answers ≡ (told_with kind (sender s f)).answers
-told_answers kind f s = by (is_up s f.source.host) refl where
+told_answers kind f s = by (is_up s _) refl where
   by : (b : Bool) → is_up s f.source.host ≡ b → answers_of f (host_at (answer_queued kind f s) f.source.host).answers ≡ (told_with kind (sender s f)).answers
   by true up =
       ap (λ (h : HostState). answers_of f h.answers) (set_there s.hosts f.source.host (given (host_at s f.source.host) (record { kind = kind; flow = f })) up)
@@ -96,27 +96,27 @@ told_answers kind f s = by (is_up s f.source.host) refl where
 
 pub told_here : (kind : Answer) (f : Flow) (s : State) → sender (answer_queued kind f s) f ≡ told_with kind (sender s f)
 told_here kind f s =
-    same_sender (is_up (answer_queued kind f s) f.source.host) (is_up s f.source.host) (last (answer_queued kind f s) f) (last s f) (outstanding (answer_queued kind f s) f) (outstanding s f)
-    (answers_of f (host_at (answer_queued kind f s) f.source.host).answers) (told_with kind (sender s f)).answers
+    same_sender _ _ _ _ _ _
+    _ _
     (same_at (λ (h : HostState). h.up) s.hosts f.source.host f.source.host (given (host_at s f.source.host) (record { kind = kind; flow = f })) no_host refl)
-    (told_last (is_up s f.source.host) s.sources f f)
-    (told_outstanding (is_up s f.source.host) s.sources f f)
+    (told_last _ _ f f)
+    (told_outstanding _ _ f f)
     (told_answers kind f s)
 
 told_elsewhere : (kind : Answer) (f g : Flow) (s : State) → same_flow g f ≡ false → sender (answer_queued kind f s) g ≡ sender s g
 told_elsewhere kind f g s other =
-    same_sender (is_up (answer_queued kind f s) g.source.host) (is_up s g.source.host) (last (answer_queued kind f s) g) (last s g) (outstanding (answer_queued kind f s) g) (outstanding s g)
-    (answers_of g (host_at (answer_queued kind f s) g.source.host).answers) (answers_of g (host_at s g.source.host).answers)
+    same_sender _ _ _ _ _ _
+    _ _
     (same_at (λ (h : HostState). h.up) s.hosts f.source.host g.source.host (given (host_at s f.source.host) (record { kind = kind; flow = f })) no_host refl)
-    (told_last (is_up s f.source.host) s.sources f g)
-    (told_outstanding (is_up s f.source.host) s.sources f g)
+    (told_last _ _ f g)
+    (told_outstanding _ _ f g)
     (same_at (λ (h : HostState). answers_of g h.answers) s.hosts f.source.host g.source.host (given (host_at s f.source.host) (record { kind = kind; flow = f })) no_host
     (given_answers g (host_at s f.source.host) (record { kind = kind; flow = f }) other))
 
 told_receiver : (kind : Answer) (f g : Flow) (s : State) → receiver (answer_queued kind f s) g ≡ receiver s g
 told_receiver kind f g s =
-    same_receiver (is_up (answer_queued kind f s) g.destination.host) (is_up s g.destination.host) (finite.get s.kept g) (finite.get s.kept g)
-    (messages_of g (host_at (answer_queued kind f s) g.destination.host).queue) (messages_of g (host_at s g.destination.host).queue)
+    same_receiver _ _ _ _
+    _ _
     (same_at (λ (h : HostState). h.up) s.hosts f.source.host g.destination.host (given (host_at s f.source.host) (record { kind = kind; flow = f })) no_host refl) refl
     (same_at (λ (h : HostState). messages_of g h.queue) s.hosts f.source.host g.destination.host (given (host_at s f.source.host) (record { kind = kind; flow = f })) no_host refl)
 
@@ -134,10 +134,10 @@ numbered_moved : (s : State) (m : Sources) (f : Flow) (l o : Option ℕ) → las
     → ((g : Flow) → same_flow g f ≡ false → finite.get m g ≡ finite.get s.sources g)
     → Moved s (record s { sources = m }) f (record (sender s f) { last = l; outstanding = o }) (receiver s f)
 numbered_moved s m f l o here now others = record {
-  sender = same_sender (is_up s f.source.host) (is_up s f.source.host) (last_in (finite.get m f)) l (outstanding_in (finite.get m f)) o (answers_of f (host_at s f.source.host).answers) (answers_of f (host_at s f.source.host).answers) refl here now refl;
+  sender = same_sender _ _ _ l _ o _ _ refl here now refl;
   receiver = refl;
   others = λ g other. record {
-    sender = same_sender (is_up s g.source.host) (is_up s g.source.host) (last_in (finite.get m g)) (last s g) (outstanding_in (finite.get m g)) (outstanding s g) (answers_of g (host_at s g.source.host).answers) (answers_of g (host_at s g.source.host).answers) refl (ap last_in (others g other)) (ap outstanding_in (others g other)) refl;
+    sender = same_sender _ _ _ _ _ _ _ _ refl (ap last_in (others g other)) (ap outstanding_in (others g other)) refl;
     receiver = refl;
   };
 }
@@ -148,19 +148,19 @@ elsewhere b x y other = rw other refl
 
 pub begun_moved : (f : Flow) (s : State) → Moved s (with_begun f s) f (begun_with (next_number s f) (sender s f)) (receiver s f)
 begun_moved f s =
-    let here : finite.get (begun s.sources f) f ≡ Some (standing.Outstanding (next_number s f)) = get_begun s.sources f f ∙ ap (λ (b : Bool). cond b (Some (standing.Outstanding (next_number s f))) (finite.get s.sources f)) (same_flow-refl f) in
-    numbered_moved s (begun s.sources f) f (Some (next_number s f)) (Some (next_number s f)) (ap last_in here) (ap outstanding_in here)
-    (λ g other. get_begun s.sources f g ∙ elsewhere (same_flow g f) _ _ other)
+    let here : finite.get (begun s.sources f) f ≡ Some (standing.Outstanding (next_number s f)) = get_begun _ f f ∙ ap (λ (b : Bool). cond b (Some (standing.Outstanding (next_number s f))) (finite.get s.sources f)) (same_flow-refl f) in
+    numbered_moved s _ f _ _ (ap last_in here) (ap outstanding_in here)
+    (λ g other. get_begun s.sources f g ∙ elsewhere _ _ _ other)
 
 answered_moved : (f : Flow) (n : ℕ) (s : State) → outstanding s f ≡ Some n → Moved s (record s { sources = flow_answered s.sources f n }) f (record (sender s f) { outstanding = None }) (receiver s f)
 answered_moved f n s is =
-    numbered_moved s (flow_answered s.sources f n) f (last s f) None (answered_last s.sources f f n) (answered_frees s.sources f n is)
-    (λ g other. get_answered s.sources f g n ∙ elsewhere (same_flow g f) _ _ other)
+    numbered_moved s _ f _ None (answered_last _ f f n) (answered_frees _ f n is)
+    (λ g other. get_answered s.sources f g n ∙ elsewhere _ _ _ other)
 
 pub given_up_moved : (f : Flow) (s : State) → Moved s (record s { sources = given_up s.sources f }) f (record (sender s f) { outstanding = None }) (receiver s f)
 given_up_moved f s =
-    numbered_moved s (given_up s.sources f) f (last s f) None (given_up_last s.sources f f) (given_up_frees s.sources f)
-    (λ g other. get_given_up s.sources f g ∙ elsewhere (same_flow g f) _ _ other)
+    numbered_moved s _ f _ None (given_up_last _ f f) (given_up_frees _ f)
+    (λ g other. get_given_up s.sources f g ∙ elsewhere _ _ _ other)
 
 -- an answer waits after the flow's message was ended
 pub ended_moved : (kind : Answer) (f : Flow) (s t : State) → Moved s t f (record (sender s f) { outstanding = None }) (receiver s f) → Moved s (answer_queued kind f t) f (ended_with kind (sender s f)) (receiver s f)
@@ -184,7 +184,7 @@ released n (Some (standing.Outstanding l)) is = by (cases_Bool (l == n)) where
 pub freed_moved : (kind : Answer) (f : Flow) (n : ℕ) (s : State) → release_in n (finite.get s.sources f) ≡ release.Freed → Moved s (freed kind f n s) f (ended_with kind (sender s f)) (receiver s f)
 freed_moved kind f n s is =
     subst (λ (r : Release). Moved s (answered_by r kind f n s) f (ended_with kind (sender s f)) (receiver s f)) (sym is)
-    (ended_moved kind f s (record s { sources = flow_answered s.sources f n }) (answered_moved f n s (released n (finite.get s.sources f) is)))
+    (ended_moved kind f s _ (answered_moved f n s (released n _ is)))
 
 unmoved_itself : (s : State) → AllUnmoved s s
 unmoved_itself s f = record { sender = refl; receiver = refl }
@@ -199,31 +199,31 @@ kept_moved : (f : Flow) (s : State) (m : Destinations) (k : Option Noted) → fi
     → Moved s (record s { kept = m }) f (sender s f) (record (receiver s f) { kept = k })
 kept_moved f s m k here beside = record {
   sender = refl;
-  receiver = same_receiver (is_up s f.destination.host) (is_up s f.destination.host) (finite.get m f) k (messages_of f (host_at s f.destination.host).queue) (messages_of f (host_at s f.destination.host).queue) refl here refl;
+  receiver = same_receiver _ _ _ k _ _ refl here refl;
   others = λ g other. record {
     sender = refl;
-    receiver = same_receiver (is_up s g.destination.host) (is_up s g.destination.host) (finite.get m g) (finite.get s.kept g) (messages_of g (host_at s g.destination.host).queue) (messages_of g (host_at s g.destination.host).queue) refl (beside g other) refl;
+    receiver = same_receiver _ _ _ _ _ _ refl (beside g other) refl;
   };
 }
 
 pub noted_moved : (f : Flow) (n : ℕ) (new : Fate) (s : State) → Moved s (noted f n new s) f (sender s f) (noted_with n new (receiver s f))
 noted_moved f n new s =
     let is : Noted = record { number = n; fate = new } in
-    kept_moved f s (finite.insert s.kept f is) (Some is) (get_put s.kept f f is ∙ ap (λ (b : Bool). cond b (Some is) (finite.get s.kept f)) (same_flow-refl f))
+    kept_moved f s _ _ (get_put s.kept f f is ∙ ap (λ (b : Bool). cond b (Some is) (finite.get s.kept f)) (same_flow-refl f))
     (λ g other. get_put s.kept f g is ∙ rw other refl)
 
 pub fated_moved : (f : Flow) (n : ℕ) (new : Fate) (s : State) → Moved s (fated f n new s) f (sender s f) (fated_with n new (receiver s f))
 fated_moved f n new s =
     let is : Option Noted = option_map (ended_in n new) (finite.get s.kept f) in
-    kept_moved f s (ended s.kept f n new) is (get_ended s.kept f f n new ∙ ap (λ (b : Bool). cond b is (finite.get s.kept f)) (same_flow-refl f))
+    kept_moved f s _ is (get_ended s.kept f f n new ∙ ap (λ (b : Bool). cond b is (finite.get s.kept f)) (same_flow-refl f))
     (λ g other. get_ended s.kept f g n new ∙ rw other refl)
 
 -- a host's queue is another one: nothing else of any flow changes
 pub queue_sender : (s : State) (h : ℕ) (queue : List Message) (g : Flow) → sender (with_host s h (record (host_at s h) { queue = queue })) g ≡ sender s g
 queue_sender s h queue g =
     let host : HostState = record (host_at s h) { queue = queue } in
-    same_sender (is_up (with_host s h host) g.source.host) (is_up s g.source.host) (last s g) (last s g) (outstanding s g) (outstanding s g)
-    (answers_of g (host_at (with_host s h host) g.source.host).answers) (answers_of g (host_at s g.source.host).answers)
+    same_sender _ _ _ _ _ _
+    _ _
     (same_at (λ (x : HostState). x.up) s.hosts h g.source.host host no_host refl) refl refl
     (same_at (λ (x : HostState). answers_of g x.answers) s.hosts h g.source.host host no_host refl)
 
@@ -231,8 +231,8 @@ pub queue_elsewhere : (s : State) (h : ℕ) (queue : List Message) (g : Flow) �
     → receiver (with_host s h (record (host_at s h) { queue = queue })) g ≡ receiver s g
 queue_elsewhere s h queue g same =
     let host : HostState = record (host_at s h) { queue = queue } in
-    same_receiver (is_up (with_host s h host) g.destination.host) (is_up s g.destination.host) (finite.get s.kept g) (finite.get s.kept g)
-    (messages_of g (host_at (with_host s h host) g.destination.host).queue) (messages_of g (host_at s g.destination.host).queue)
+    same_receiver _ _ _ _
+    _ _
     (same_at (λ (x : HostState). x.up) s.hosts h g.destination.host host no_host refl) refl
     (same_at (λ (x : HostState). messages_of g x.queue) s.hosts h g.destination.host host no_host same)
 
@@ -240,9 +240,9 @@ pub queue_here : (s : State) (h : ℕ) (queue : List Message) (g : Flow) → g.d
     → receiver (with_host s h (record (host_at s h) { queue = queue })) g ≡ record (receiver s g) { queue = messages_of g queue }
 queue_here s h queue g at up =
     let host : HostState = record (host_at s h) { queue = queue } in
-    let set : get_or (set s.hosts h host) g.destination.host no_host ≡ host = ap (λ (k : ℕ). get_or (set s.hosts h host) k no_host) at ∙ set_there s.hosts h host up in
-    same_receiver (is_up (with_host s h host) g.destination.host) (is_up s g.destination.host) (finite.get s.kept g) (finite.get s.kept g)
-    (messages_of g (host_at (with_host s h host) g.destination.host).queue) (messages_of g queue)
+    let set : get_or (set s.hosts h host) g.destination.host no_host ≡ host = ap (λ (k : ℕ). get_or (set s.hosts h host) k no_host) at ∙ set_there _ h host up in
+    same_receiver _ _ _ _
+    _ _
     (same_at (λ (x : HostState). x.up) s.hosts h g.destination.host host no_host refl) refl
     (ap (λ (x : HostState). messages_of g x.queue) set)
 
@@ -251,7 +251,7 @@ queued_moved m s up =
     let h : ℕ = m.flow.destination.host in
     let old : List Message = (host_at s m.flow.destination.host).queue in
     record {
-      sender = queue_sender s h (old ++ m ∷ []) m.flow;
-      receiver = queue_here s h (old ++ m ∷ []) m.flow refl up ∙ ap (λ (ms : List Message). let r : Receiver = record (receiver s m.flow) { queue = ms } in r) (messages_push m.flow old m (same_flow-refl m.flow));
-      others = λ g other. record { sender = queue_sender s h (old ++ m ∷ []) g; receiver = queue_elsewhere s h (old ++ m ∷ []) g (messages_beside g old m other) };
+      sender = queue_sender s h _ m.flow;
+      receiver = queue_here s h _ m.flow refl up ∙ ap (λ (ms : List Message). let r : Receiver = record (receiver s m.flow) { queue = ms } in r) (messages_push m.flow old m (same_flow-refl m.flow));
+      others = λ g other. record { sender = queue_sender s h _ g; receiver = queue_elsewhere s h _ g (messages_beside g old m other) };
     }

@@ -1,12 +1,13 @@
 -- How each call moves the flows of an IMP.
-use Rattle.imp_node.proofs.Common.{cases_Bool, Flow, Answer, HostMessage, Fate, Noted, Release, PacketFields, flow_of, PacketKind, carried_by, answer_to, ChannelFault, Frame, Received, fresh_carried, Message, Told, State, HostState, no_host, host_at, port_at, with_host, number, is_up, has_route, last, outstanding, is_request, Way, Nowhere, Here, Away, way_of, offered, from_host, is_from_here, reply_has_room, replied, taken_by, to_host, resend, route, end_down, end_up, asked_by, ask}
+use Rattle.imp_node.proofs.Common.{cases_Bool, Flow, Answer, HostMessage, Fate, Noted, Release, PacketFields, flow_of, PacketKind, carried_by, answer_to, ChannelFault, Frame, Received, fresh_carried, Message, Told, State, HostState, no_host, host_at, port_at, with_host, number, is_up, has_route, last, outstanding, is_request, Way, Nowhere, Here, Away, offered, from_host, is_from_here, reply_has_room, replied, taken_by, to_host, resend, route, claim, end_down, end_up, asked_by, ask}
+use Rattle.imp_node.specs.Offering.{way_of}
 use Rattle.std.proofs.Common.{◌≡◌, ℕ, ◌<◌, zero, suc, Bool, true, false, not, List, [], ◌∷◌, length, get_or, set, Option, Some, None, Result, Ok, Err, refl, ap, sym, ◌∙◌, subst, cond, ◌==◌, ◌⊎◌, inl, inr, eqb-true, eq-eqb, if◌then◌else◌}
 use Rattle.std.proofs.lemmas.List.{get_or-set_same, get_or-set_other}
 use Rattle.std.specs.FinMap as finite
 use Rattle.bit_messages.specs.Body.{body, has_mark, text_of}
 use Rattle.interface.specs.declared.crossing.Answer.TheVariants as answer
-use Rattle.link_table.specs.Flows.{Sources, kept_in, told_by, told_in, last_in, outstanding_in, release_in, given_up, handed}
-use Rattle.link_table.specs.Keys.{is_from, drop_from}
+use Rattle.link_table.specs.Flows.{Sources, kept_in, told_by, told_in, last_in, outstanding_in, release_in, handed}
+use Rattle.link_table.specs.Keys.{is_from}
 use Rattle.link_table.specs.Numbers.{is_new}
 use Rattle.link_table.specs.declared.destination.Asked.TheVariants as asked
 use Rattle.link_table.specs.declared.destination.Fate.TheVariants as fate
@@ -18,8 +19,8 @@ use Rattle.packetiser.specs.declared.reassembly.Added.{Added}
 use Rattle.packetiser.specs.declared.reassembly.Added.TheVariants as piece
 use Rattle.imp_channel.specs.declared.line.Received.TheVariants as received
 use Rattle.imp_node.specs.Pump.{pump, target, stored}
-use Rattle.imp_node.specs.Flows.{freed, answer_queued, next_number, with_begun, noted, fated, message_queued, answer_packet}
-use Rattle.imp_node.specs.Arrival.{Arrival, Passing, Old, Undeliverable, Replying, Piece, NoSlot, Whole, Unmarked, Answering, piece_arrival, ask_arrival, arrival_by, arrival, arrival_has_room, arrived, frame_taken, acknowledged, ignored, fresh, taken_frame, from_line}
+use Rattle.imp_node.specs.Flows.{freed, next_number, with_begun, noted, fated, message_queued, answer_packet}
+use Rattle.imp_node.specs.Arrival.{Arrival, Passing, Old, Undeliverable, Replying, Piece, NoSlot, Whole, Unmarked, Answering, piece_arrival, ask_arrival, arrival_by, arrival, arrived, frame_taken, acknowledged, ignored, fresh, taken_frame, from_line}
 use Rattle.imp_node.specs.Stopping.{give_up, forget, abandon, all_handed, told_back, message_returned, stopped, host_up}
 use Rattle.imp_node.specs.Sides.{answers_of, messages_of, Sender, Receiver, sender, receiver, begun_with, ended_with, noted_with, fated_with, queued_with, Unmoved, AllUnmoved, Moved}
 use Rattle.imp_node.specs.Moves.{OfferMoves, AnswerMoves, MakesWhole, TellsFate, Tells, ArrivalSays, ArrivalMoves, FrameMoves, without_first, sender_told, TellingMoves, ReturningMoves, source_down, destination_down, source_up, destination_up, Becomes}
@@ -32,6 +33,9 @@ resend_unmoved s f = record { sender = refl; receiver = refl }
 
 pub route_unmoved : (s : State) → AllUnmoved s (route s).state
 route_unmoved s f = record { sender = refl; receiver = refl }
+
+pub claim_unmoved : (s : State) → AllUnmoved s (claim s).state
+claim_unmoved s f = record { sender = refl; receiver = refl }
 
 pub end_down_unmoved : (s : State) (k : ℕ) → AllUnmoved s (end_down s k).state
 end_down_unmoved s k f = record { sender = refl; receiver = refl }
@@ -47,7 +51,7 @@ asked_unmoved None g s f = record { sender = refl; receiver = refl }
 asked_unmoved (Some n) g s f = record { sender = refl; receiver = refl }
 
 pub ask_unmoved : (s : State) (g : Flow) → AllUnmoved s (ask s g).state
-ask_unmoved s g = asked_unmoved (outstanding s g) g s
+ask_unmoved s g = asked_unmoved _ g s
 
 -- ---- from_host
 
@@ -56,7 +60,7 @@ pumped_moved : (s t : State) (g : Flow) (from : Sender) (to : Receiver) → Move
 pumped_moved s t g from to m = record { sender = m.sender; receiver = m.receiver; others = λ f other. record { sender = (m.others f other).sender; receiver = (m.others f other).receiver } }
 
 here_up : (s : State) (f : Flow) → way_of s f ≡ Here → is_up s f.destination.host ≡ true
-here_up s f is = by (cases_Bool (f.destination.imp == number s)) (cases_Bool (is_up s f.destination.host)) where
+here_up s f is = by (cases_Bool (f.destination.imp == number s)) (cases_Bool (is_up s _)) where
   by : ((f.destination.imp == number s) ≡ true) ⊎ ((f.destination.imp == number s) ≡ false) → (is_up s f.destination.host ≡ true) ⊎ (is_up s f.destination.host ≡ false) → is_up s f.destination.host ≡ true
   by here (inl up) = up
   by (inl own) (inr down) = let no : Nowhere ≡ Here = rw (own, down) at is in cc
@@ -66,14 +70,14 @@ here_up s f is = by (cases_Bool (f.destination.imp == number s)) (cases_Bool (is
   ]
 
 offered_moved : (way : Way) (m : HostMessage) (s : State) → (way ≡ Here → is_up s m.flow.destination.host ≡ true) → OfferMoves way m s (pump [] (offered way m s)).state
-offered_moved Nowhere m s up = pumped_moved s (answer_queued answer.Dead m.flow s) m.flow _ _ (told_moved answer.Dead m.flow s)
+offered_moved Nowhere m s up = pumped_moved s _ m.flow _ _ (told_moved _ m.flow s)
 offered_moved Here m s up =
     let n : ℕ = next_number s m.flow in
     let begun : State = with_begun m.flow s in
     let first : Moved s begun m.flow (begun_with n (sender s m.flow)) (receiver s m.flow) = begun_moved m.flow s in
-    let second : Moved begun (noted m.flow n fate.Waits begun) m.flow (sender begun m.flow) (noted_with n fate.Waits (receiver begun m.flow)) = noted_moved m.flow n fate.Waits begun in
+    let second : Moved begun (noted m.flow n fate.Waits begun) m.flow (sender begun m.flow) (noted_with n fate.Waits (receiver begun m.flow)) = noted_moved m.flow n _ begun in
     let third : Moved (noted m.flow n fate.Waits begun) (message_queued (record { flow = m.flow; number = n; text = m.text }) (noted m.flow n fate.Waits begun)) m.flow (sender (noted m.flow n fate.Waits begun) m.flow) (queued_with (record { flow = m.flow; number = n; text = m.text }) (receiver (noted m.flow n fate.Waits begun) m.flow)) =
-    queued_moved (record { flow = m.flow; number = n; text = m.text }) (noted m.flow n fate.Waits begun) (up refl) in
+    queued_moved _ _ (up refl) in
     record {
       sender = third.sender ∙ second.sender ∙ first.sender;
       receiver = third.receiver ∙ ap (queued_with (record { flow = m.flow; number = n; text = m.text })) second.receiver;
@@ -89,12 +93,12 @@ offered_moved Away m s up = record {
 }
 
 pub from_host_moves : (s : State) (m : HostMessage) → OfferMoves (way_of s m.flow) m s (from_host s m).state
-from_host_moves s m = offered_moved (way_of s m.flow) m s (here_up s m.flow)
+from_host_moves s m = offered_moved _ m s (here_up s m.flow)
 
 -- ---- give_up
 
 pub give_up_moves : (s : State) (f : Flow) → Moved s (give_up s f).state f (ended_with answer.Incomplete (sender s f)) (receiver s f)
-give_up_moves s f = pumped_moved s (answer_queued answer.Incomplete f (record s { sources = given_up s.sources f })) f _ _ (ended_moved answer.Incomplete f s (record s { sources = given_up s.sources f }) (given_up_moved f s))
+give_up_moves s f = pumped_moved s _ f _ _ (ended_moved _ f s _ (given_up_moved f s))
 
 -- ---- what arrivals say
 
@@ -134,14 +138,14 @@ ask_says s p (Some k) false is is_n question here = elim (cases_Bool (k.number =
 
 kind_says : (s : State) (p : PacketFields) (k : PacketKind) → p.kind ≡ k → (target p == number s) ≡ true → ArrivalSays (arrival_by k s p) s p
 kind_says s p kind.Data is own =
-    data_says s p (is_new (kept_in (finite.get s.kept (flow_of p))) p.number) (is_up s p.destination.host) (answer_of s.slots p) refl refl refl is
+    data_says s p _ _ _ refl refl refl is
     (eqb-true p.destination.imp (number s) (let same : (p.destination.imp == number s) ≡ true = rw is at own in same))
 kind_says s p kind.Rfnm is own =
     (eqb-true p.source.imp (number s) (let same : (p.source.imp == number s) ≡ true = rw is at own in same), subst (λ (k : PacketKind). Tells k answer.Rfnm) (sym is) tt)
 kind_says s p kind.Dead is own =
     (eqb-true p.source.imp (number s) (let same : (p.source.imp == number s) ≡ true = rw is at own in same), subst (λ (k : PacketKind). Tells k answer.Dead) (sym is) tt)
 kind_says s p kind.Ask is own =
-    ask_says s p (finite.get s.kept (flow_of p)) (is_new (kept_in (finite.get s.kept (flow_of p))) p.number) refl refl is
+    ask_says s p _ _ refl refl is
     (eqb-true p.destination.imp (number s) (let same : (p.destination.imp == number s) ≡ true = rw is at own in same))
 kind_says s p kind.Never is own =
     (eqb-true p.source.imp (number s) (let same : (p.source.imp == number s) ≡ true = rw is at own in same), subst (λ (k : PacketKind). Tells k answer.NotTaken) (sym is) tt)
@@ -168,9 +172,9 @@ taken_moves Piece k f p s says = λ g. record { sender = refl; receiver = refl }
 taken_moves NoSlot k f p s says = λ g. record { sender = refl; receiver = refl }
 taken_moves (Whole text) k f p s says =
     let m : Message = record { flow = flow_of p; number = p.number; text = text } in
-    let first : Moved s (noted (flow_of p) p.number fate.Waits s) (flow_of p) (sender s (flow_of p)) (noted_with p.number fate.Waits (receiver s (flow_of p))) = noted_moved (flow_of p) p.number fate.Waits s in
+    let first : Moved s (noted (flow_of p) p.number fate.Waits s) (flow_of p) (sender s (flow_of p)) (noted_with p.number fate.Waits (receiver s (flow_of p))) = noted_moved _ _ _ s in
     let second : Moved (noted (flow_of p) p.number fate.Waits s) (message_queued m (noted (flow_of p) p.number fate.Waits s)) (flow_of p) (sender (noted (flow_of p) p.number fate.Waits s) (flow_of p)) (queued_with m (receiver (noted (flow_of p) p.number fate.Waits s) (flow_of p))) =
-    queued_moved m (noted (flow_of p) p.number fate.Waits s) says.1.up in
+    queued_moved m _ says.1.up in
     record {
       sender = second.sender;
       receiver = second.receiver ∙ ap (queued_with m) first.receiver;
@@ -187,19 +191,19 @@ taken_moves (Answering answer) k f p s says = by (release_in p.number (finite.ge
 
   by : (r : Release) → release_in p.number (finite.get s.sources (flow_of p)) ≡ r → AnswerMoves r answer (flow_of p) s t
   by release.Freed is =
-      let m : Moved (frame_taken k f s) (freed answer (flow_of p) p.number (frame_taken k f s)) (flow_of p) (ended_with answer (sender s (flow_of p))) (receiver s (flow_of p)) = freed_moved answer (flow_of p) p.number (frame_taken k f s) is in
+      let m : Moved (frame_taken k f s) (freed answer (flow_of p) p.number (frame_taken k f s)) (flow_of p) (ended_with answer (sender s (flow_of p))) (receiver s (flow_of p)) = freed_moved answer _ _ _ is in
       record { sender = m.sender; receiver = m.receiver; others = λ g other. record { sender = (m.others g other).sender; receiver = (m.others g other).receiver } }
   by release.Stale is = λ g.
-      let m : Unmoved (frame_taken k f s) (freed answer (flow_of p) p.number (frame_taken k f s)) g = stale_unmoved answer (flow_of p) p.number (frame_taken k f s) is g in
+      let m : Unmoved (frame_taken k f s) (freed answer (flow_of p) p.number (frame_taken k f s)) g = stale_unmoved answer _ _ _ is g in
       record { sender = m.sender; receiver = m.receiver }
 
 ignored_moves : (f : Frame) (s : State) → FrameMoves f s (ignored s).state
 ignored_moves f s = inl (λ g. record { sender = refl; receiver = refl })
 
 fresh_moves : (k : ℕ) (f : Frame) (p : PacketFields) (s : State) → carried_by f.content ≡ p ∷ [] → FrameMoves f s (fresh k f p s).state
-fresh_moves k f p s is = at (arrival_has_room (arrival s p) s p) where
+fresh_moves k f p s is = at _ where
   at : (room : Bool) → FrameMoves f s (cond room (pump (acknowledged k (frame_taken k f s)) (arrived (arrival s p) p (frame_taken k f s))) (ignored s)).state
-  at true = inr (p, is, taken_moves (arrival s p) k f p s (arrival_says s p))
+  at true = inr (p, is, taken_moves _ k f p s (arrival_says s p))
   at false = ignored_moves f s
 
 frame_moves : (got : Result Received ChannelFault) (k : ℕ) (f : Frame) (s : State) → ((p : PacketFields) → got ≡ Ok (received.Fresh p) → carried_by f.content ≡ p ∷ []) → FrameMoves f s (taken_frame got k f s).state
@@ -210,7 +214,7 @@ frame_moves (Ok (received.Routes distances)) k f s brings = inl (λ g. record { 
 frame_moves (Err fault) k f s brings = ignored_moves f s
 
 pub from_line_moves : (s : State) (k : ℕ) (f : Frame) → FrameMoves f s (from_line s k f).state
-from_line_moves s k f = at (port_at s.ports k).up where
+from_line_moves s k f = at _ where
   at : (up : Bool) → FrameMoves f s (cond up (taken_frame (answer_to (port_at s.ports k).line f) k f s) (ignored s)).state
   at true = frame_moves (answer_to (port_at s.ports k).line f) k f s (λ p is. fresh_carried (port_at s.ports k).line f p is)
   at false = ignored_moves f s
@@ -222,17 +226,17 @@ answer_moves : (s : State) (h : ℕ) (t : Told) (others : List Told) (queue : Li
 answer_moves s h t others queue up is at =
     let host : HostState = record (host_at s h) { answers = others } in
     let u : State = (pump [] (taken_by h (t ∷ others) queue s)).state in
-    let here : get_or (set s.hosts h host) t.flow.source.host no_host ≡ host = ap (λ (k : ℕ). get_or (set s.hosts h host) k no_host) at ∙ set_there s.hosts h host up in
+    let here : get_or (set s.hosts h host) t.flow.source.host no_host ≡ host = ap (λ (k : ℕ). get_or (set s.hosts h host) k no_host) at ∙ set_there _ h host up in
     record {
-      sender = same_sender (is_up u t.flow.source.host) (is_up s t.flow.source.host) (last u t.flow) (last s t.flow) (outstanding u t.flow) (outstanding s t.flow)
-          (answers_of t.flow (host_at u t.flow.source.host).answers) (answers_of t.flow others)
-          (same_at (λ (x : HostState). x.up) s.hosts h t.flow.source.host host no_host refl) (handed_last s.sources t.flow t.flow) (handed_outstanding s.sources t.flow t.flow)
+      sender = same_sender _ _ _ _ _ _
+          _ _
+          (same_at (λ (x : HostState). x.up) s.hosts h t.flow.source.host host no_host refl) (handed_last _ t.flow t.flow) (handed_outstanding _ t.flow t.flow)
           (ap (λ (x : HostState). answers_of t.flow x.answers) here);
       receiver = beside t.flow;
       others = λ g other. record {
-        sender = same_sender (is_up u g.source.host) (is_up s g.source.host) (last u g) (last s g) (outstanding u g) (outstanding s g)
-            (answers_of g (host_at u g.source.host).answers) (answers_of g (host_at s g.source.host).answers)
-            (same_at (λ (x : HostState). x.up) s.hosts h g.source.host host no_host refl) (handed_last s.sources t.flow g) (handed_outstanding s.sources t.flow g)
+        sender = same_sender _ _ _ _ _ _
+            _ _
+            (same_at (λ (x : HostState). x.up) s.hosts h g.source.host host no_host refl) (handed_last _ t.flow g) (handed_outstanding _ t.flow g)
             (same_at (λ (x : HostState). answers_of g x.answers) s.hosts h g.source.host host no_host (rw is (rw other refl)));
         receiver = beside g;
       };
@@ -241,8 +245,8 @@ answer_moves s h t others queue up is at =
     beside : (g : Flow) → receiver (pump [] (taken_by h (t ∷ others) queue s)).state g ≡ receiver s g
     beside g =
         let host : HostState = record (host_at s h) { answers = others } in
-        same_receiver (is_up (with_host s h host) g.destination.host) (is_up s g.destination.host) (finite.get s.kept g) (finite.get s.kept g)
-        (messages_of g (host_at (with_host s h host) g.destination.host).queue) (messages_of g (host_at s g.destination.host).queue)
+        same_receiver _ _ _ _
+        _ _
         (same_at (λ (x : HostState). x.up) s.hosts h g.destination.host host no_host refl) refl
         (same_at (λ (x : HostState). messages_of g x.queue) s.hosts h g.destination.host host no_host refl)
 
@@ -254,11 +258,11 @@ answer_taken s h t others up is at =
 
 -- the source of a message is notified where it is at this IMP
 replied_moves : (kind : Answer) (packet : PacketKind) (m : Message) (s : State) → TellingMoves kind m s (replied kind packet m s)
-replied_moves kind packet m s = at (is_from_here s m) where
+replied_moves kind packet m s = at _ where
   by : (r : Release) → release_in m.number (finite.get s.sources m.flow) ≡ r → Moved s (freed kind m.flow m.number s) m.flow (sender_told true r kind (sender s m.flow)) (receiver s m.flow)
   by release.Freed is = freed_moved kind m.flow m.number s is
-  by release.Stale is =
-      let still : AllUnmoved s (freed kind m.flow m.number s) = stale_unmoved kind m.flow m.number s is in
+  by _ is =
+      let still : AllUnmoved s (freed kind m.flow m.number s) = stale_unmoved kind m.flow _ s is in
       record { sender = (still m.flow).sender; receiver = (still m.flow).receiver; others = λ g other. still g }
 
   at : (here : Bool) → Moved s (cond here (freed kind m.flow m.number s) (stored (answer_packet packet m.flow m.number) s)) m.flow (sender_told here (release_in m.number (finite.get s.sources m.flow)) kind (sender s m.flow)) (receiver s m.flow)
@@ -270,8 +274,8 @@ message_moves : (s : State) (h : ℕ) (m : Message) (others : List Message) → 
 message_moves s h m others up is at =
     let left : State = with_host s h (record (host_at s h) { queue = others }) in
     let mid : State = fated m.flow m.number fate.Taken left in
-    let ends : Moved left mid m.flow (sender left m.flow) (fated_with m.number fate.Taken (receiver left m.flow)) = fated_moved m.flow m.number fate.Taken left in
-    let told : TellingMoves answer.Rfnm m mid (replied answer.Rfnm kind.Rfnm m mid) = replied_moves answer.Rfnm kind.Rfnm m mid in
+    let ends : Moved left mid m.flow (sender left m.flow) (fated_with m.number fate.Taken (receiver left m.flow)) = fated_moved m.flow _ _ left in
+    let told : TellingMoves answer.Rfnm m mid (replied answer.Rfnm kind.Rfnm m mid) = replied_moves _ kind.Rfnm m mid in
     record {
       sender = told.sender ∙ ap (sender_told (is_from_here s m) (release_in m.number (finite.get s.sources m.flow)) answer.Rfnm) (queue_sender s h others m.flow);
       receiver = told.receiver ∙ ends.receiver ∙ ap (fated_with m.number fate.Taken) (queue_here s h others m.flow at up);
@@ -299,7 +303,7 @@ nothing_taken s h none empty =
 pub forget_becomes : (s : State) (imp : ℕ) (f : Flow) → Becomes s (forget s imp).state f (sender s f) (record (receiver s f) { kept = if is_from imp f then None else finite.get s.kept f })
 forget_becomes s imp f = record {
   sender = refl;
-  receiver = same_receiver (is_up s f.destination.host) (is_up s f.destination.host) (finite.get (drop_from imp s.kept) f) (if is_from imp f then None else finite.get s.kept f) (messages_of f (host_at s f.destination.host).queue) (messages_of f (host_at s f.destination.host).queue) refl (get_dropped s.kept imp f) refl;
+  receiver = same_receiver _ _ _ _ _ _ refl (get_dropped s.kept imp f) refl;
 }
 
 -- ---- a host goes down
@@ -337,24 +341,24 @@ destination_down_is false u k ms ns v e f = rw (e, f) refl
 pub stopped_becomes : (s : State) (h : ℕ) (f : Flow) → Becomes s (stopped s h) f (source_down (f.source.host == h) (sender s f)) (destination_down (f.destination.host == h) (receiver s f))
 stopped_becomes s h f =
     let t : State = stopped s h in
-    let there : get_or (set s.hosts h no_host) h no_host ≡ no_host = down_there s.hosts h in
+    let there : get_or (set s.hosts h no_host) h no_host ≡ no_host = down_there _ h in
     record {
       sender =
-          same_sender (is_up t f.source.host) (is_up t f.source.host) (last t f) (last s f) (outstanding t f) (outstanding s f) (answers_of f (host_at t f.source.host).answers) (answers_of f (host_at t f.source.host).answers) refl (all_handed_last (host_at s h).answers s.sources f) (all_handed_outstanding (host_at s h).answers s.sources f) refl
-          ∙ source_down_is (f.source.host == h) (is_up s f.source.host) (last s f) (outstanding s f) (answers_of f (host_at s f.source.host).answers) (answers_of f (host_at t f.source.host).answers) (is_up t f.source.host)
-          (field_set (λ (x : HostState). x.up) s.hosts h f.source.host no_host there)
-          (field_set (λ (x : HostState). answers_of f x.answers) s.hosts h f.source.host no_host there);
+          same_sender _ _ _ _ _ _ _ _ refl (all_handed_last (host_at s h).answers s.sources f) (all_handed_outstanding (host_at s h).answers s.sources f) refl
+          ∙ source_down_is (f.source.host == h) (is_up s _) _ _ (answers_of f (host_at s f.source.host).answers) _ _
+          (field_set (λ (x : HostState). x.up) _ h f.source.host no_host there)
+          (field_set (λ (x : HostState). answers_of f x.answers) _ h f.source.host no_host there);
       receiver =
-          destination_down_is (f.destination.host == h) (is_up s f.destination.host) (finite.get s.kept f) (messages_of f (host_at s f.destination.host).queue) (messages_of f (host_at t f.destination.host).queue) (is_up t f.destination.host)
-          (field_set (λ (x : HostState). x.up) s.hosts h f.destination.host no_host there)
-          (field_set (λ (x : HostState). messages_of f x.queue) s.hosts h f.destination.host no_host there);
+          destination_down_is (f.destination.host == h) (is_up s _) _ (messages_of f (host_at s f.destination.host).queue) _ _
+          (field_set (λ (x : HostState). x.up) _ h f.destination.host no_host there)
+          (field_set (λ (x : HostState). messages_of f x.queue) _ h f.destination.host no_host there);
     }
 
 told_back_moves : (m : Message) (s : State) → TellingMoves answer.Dead m s (told_back m s)
-told_back_moves m s = by (is_from_here s m) refl (replied_moves answer.Dead kind.Dead m s) where
+told_back_moves m s = by (is_from_here s m) refl (replied_moves _ kind.Dead m s) where
   by : (here : Bool) → is_from_here s m ≡ here → TellingMoves answer.Dead m s (replied answer.Dead kind.Dead m s) → TellingMoves answer.Dead m s (told_back m s)
   by true is moves = let all : reply_has_room s m ≡ true = rw is refl in subst (λ (room : Bool). TellingMoves answer.Dead m s (cond room (replied answer.Dead kind.Dead m s) s)) (sym all) moves
-  by false is moves = at (reply_has_room s m) where
+  by false is moves = at _ where
     still : TellingMoves answer.Dead m s s
     still = record { sender = ap (λ (here : Bool). sender_told here (release_in m.number (finite.get s.sources m.flow)) answer.Dead (sender s m.flow)) (sym is); receiver = refl; others = λ g other. record { sender = refl; receiver = refl } }
 
@@ -365,7 +369,7 @@ told_back_moves m s = by (is_from_here s m) refl (replied_moves answer.Dead kind
 pub returned_moves : (m : Message) (s : State) → ReturningMoves m s (message_returned m s)
 returned_moves m s =
     let mid : State = fated m.flow m.number fate.Dead s in
-    let ends : Moved s mid m.flow (sender s m.flow) (fated_with m.number fate.Dead (receiver s m.flow)) = fated_moved m.flow m.number fate.Dead s in
+    let ends : Moved s mid m.flow (sender s m.flow) (fated_with m.number fate.Dead (receiver s m.flow)) = fated_moved m.flow _ _ s in
     let told : TellingMoves answer.Dead m mid (told_back m mid) = told_back_moves m mid in
     record {
       sender = told.sender;
@@ -391,10 +395,10 @@ host_up_becomes s h f within =
     let t : State = (host_up s h).state in
     let there : get_or (set s.hosts h host) h no_host ≡ host = get_or-set_same s.hosts h host no_host within in
     record {
-      sender = source_up_is (f.source.host == h) (is_up s f.source.host) (last s f) (outstanding s f) (answers_of f (host_at s f.source.host).answers) (answers_of f (host_at t f.source.host).answers) (is_up t f.source.host)
-          (field_set (λ (x : HostState). x.up) s.hosts h f.source.host host there)
+      sender = source_up_is (f.source.host == h) (is_up s _) _ _ _ _ _
+          (field_set (λ (x : HostState). x.up) _ h f.source.host host there)
           (same_at (λ (x : HostState). answers_of f x.answers) s.hosts h f.source.host host no_host refl);
-      receiver = destination_up_is (f.destination.host == h) (is_up s f.destination.host) (finite.get s.kept f) (messages_of f (host_at s f.destination.host).queue) (messages_of f (host_at t f.destination.host).queue) (is_up t f.destination.host)
-          (field_set (λ (x : HostState). x.up) s.hosts h f.destination.host host there)
+      receiver = destination_up_is (f.destination.host == h) (is_up s _) _ _ _ _
+          (field_set (λ (x : HostState). x.up) _ h f.destination.host host there)
           (same_at (λ (x : HostState). messages_of f x.queue) s.hosts h f.destination.host host no_host refl);
     }

@@ -1,5 +1,5 @@
 -- No call spends an IMP, save by running out of memory.
-use Rattle.imp_node.proofs.Common.{Flow, Answer, HostMessage, PacketFields, PacketKind, answer_to, ChannelFault, Frame, Received, Release, Message, Told, State, ImpTurn, host_at, with_host, port_at, Way, Nowhere, Here, Away, way_of, offered, from_host, outstanding, asked_by, ask, is_from_here, replied, reply_has_room, taken_by, to_host}
+use Rattle.imp_node.proofs.Common.{Flow, Answer, HostMessage, PacketFields, PacketKind, ChannelFault, Frame, Received, Release, Message, Told, State, ImpTurn, host_at, Way, Nowhere, Here, Away, offered, from_host, asked_by, ask, replied, taken_by, to_host}
 use Rattle.std.proofs.Common.{◌≡◌, ℕ, Bool, true, false, List, [], ◌∷◌, Option, Some, None, Result, Ok, Err, refl, ◌∙◌}
 use Rattle.std.specs.Prelude.{if◌then◌else◌}
 use Rattle.interface.specs.declared.crossing.Answer.TheVariants as answer
@@ -8,7 +8,7 @@ use Rattle.imp_channel.specs.declared.line.Received.TheVariants as received
 use Rattle.link_table.specs.declared.destination.Fate.TheVariants as fate
 use Rattle.link_table.specs.declared.source.Release.TheVariants as release
 use Rattle.imp_node.specs.Flows.{answered_by, fated}
-use Rattle.imp_node.specs.Arrival.{Arrival, Passing, Old, Undeliverable, Replying, Piece, NoSlot, Whole, Unmarked, Answering, arrival, arrived, arrival_has_room, frame_taken, taken_frame, from_line}
+use Rattle.imp_node.specs.Arrival.{Arrival, Passing, Old, Undeliverable, Replying, Piece, NoSlot, Whole, Unmarked, Answering, arrived, taken_frame, from_line}
 use Rattle.imp_node.specs.Stopping.{message_returned, all_returned, stopped, host_down}
 
 answered_spent : (r : Release) (kind : Answer) (f : Flow) (n : ℕ) (s : State) → (answered_by r kind f n s).spent ≡ s.spent
@@ -20,7 +20,7 @@ either_spent true s t u e h = e
 either_spent false s t u e h = h
 
 replied_spent : (kind : Answer) (packet : PacketKind) (m : Message) (s : State) → (replied kind packet m s).spent ≡ s.spent
-replied_spent kind packet m s = either_spent (is_from_here s m) s _ _ (answered_spent _ kind m.flow m.number s) refl
+replied_spent kind packet m s = either_spent _ s _ _ (answered_spent _ kind m.flow _ s) refl
 
 arrived_spent : (a : Arrival) (p : PacketFields) (s : State) → (arrived a p s).spent ≡ s.spent
 arrived_spent Passing p s = refl
@@ -31,21 +31,21 @@ arrived_spent Piece p s = refl
 arrived_spent NoSlot p s = refl
 arrived_spent (Whole text) p s = refl
 arrived_spent Unmarked p s = refl
-arrived_spent (Answering kind) p s = answered_spent _ kind _ p.number s
+arrived_spent (Answering kind) p s = answered_spent _ kind _ _ s
 
 turn_spent : (b : Bool) (s : State) (t u : ImpTurn) → t.state.spent ≡ s.spent → u.state.spent ≡ s.spent → (if b then t else u).state.spent ≡ s.spent
 turn_spent true s t u e h = e
 turn_spent false s t u e h = h
 
 taken_spent : (r : Result Received ChannelFault) (k : ℕ) (f : Frame) (s : State) → (taken_frame r k f s).state.spent ≡ s.spent
-taken_spent (Ok (received.Fresh p)) k f s = turn_spent (arrival_has_room (arrival s p) s p) s _ _ (arrived_spent (arrival s p) p (frame_taken k f s)) refl
+taken_spent (Ok (received.Fresh p)) k f s = turn_spent _ s _ _ (arrived_spent _ p _) refl
 taken_spent (Ok received.Repeat) k f s = refl
 taken_spent (Ok received.AckOnly) k f s = refl
 taken_spent (Ok (received.Routes distances)) k f s = refl
 taken_spent (Err fault) k f s = refl
 
 pub from_line_spent : (s : State) (k : ℕ) (f : Frame) → (from_line s k f).state.spent ≡ s.spent
-from_line_spent s k f = turn_spent (port_at s.ports k).up s _ _ (taken_spent (answer_to (port_at s.ports k).line f) k f s) refl
+from_line_spent s k f = turn_spent _ s _ _ (taken_spent _ k f s) refl
 
 offered_spent : (way : Way) (m : HostMessage) (s : State) → (offered way m s).spent ≡ s.spent
 offered_spent Nowhere m s = refl
@@ -53,20 +53,20 @@ offered_spent Here m s = refl
 offered_spent Away m s = refl
 
 pub from_host_spent : (s : State) (m : HostMessage) → (from_host s m).state.spent ≡ s.spent
-from_host_spent s m = offered_spent (way_of s m.flow) m s
+from_host_spent s m = offered_spent _ m s
 
 taken_by_spent : (h : ℕ) (answers : List Told) (queue : List Message) (s : State) → (taken_by h answers queue s).spent ≡ s.spent
 taken_by_spent h (told ∷ others) queue s = refl
-taken_by_spent h [] (m ∷ others) s = replied_spent answer.Rfnm kind.Rfnm m (fated m.flow m.number fate.Taken (with_host s h (record (host_at s h) { queue = others })))
+taken_by_spent h [] (m ∷ others) s = replied_spent _ kind.Rfnm m _
 taken_by_spent h [] [] s = refl
 
 pub to_host_spent : (s : State) (h : ℕ) → (to_host s h).state.spent ≡ s.spent
-to_host_spent s h = taken_by_spent h (host_at s h).answers (host_at s h).queue s
+to_host_spent s h = taken_by_spent h _ _ s
 
 returned_spent : (m : Message) (s : State) → (message_returned m s).spent ≡ s.spent
 returned_spent m s =
     let t : State = fated m.flow m.number fate.Dead s in
-    either_spent (reply_has_room t m) s (replied answer.Dead kind.Dead m t) t (replied_spent answer.Dead kind.Dead m t) refl
+    either_spent _ s (replied answer.Dead kind.Dead m t) t (replied_spent _ kind.Dead m t) refl
 
 all_returned_spent : (ms : List Message) (s : State) → (all_returned ms s).spent ≡ s.spent
 all_returned_spent [] s = refl
@@ -80,4 +80,4 @@ asked_spent None f s = refl
 asked_spent (Some n) f s = refl
 
 pub ask_spent : (s : State) (f : Flow) → (ask s f).state.spent ≡ s.spent
-ask_spent s f = asked_spent (outstanding s f) f s
+ask_spent s f = asked_spent _ f s

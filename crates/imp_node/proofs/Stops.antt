@@ -15,9 +15,9 @@ none_by (m ∷ others) e = absurd (grind (arith, e))
 pub none_returned : (s : State) (h : ℕ) → nat_lt 0 (length (host_at s h).queue) ≡ false
     → s ≡ all_returned (host_at s h).queue (with_host s h (record (host_at s h) { queue = [] }))
 none_returned s h e =
-    let none : (host_at s h).queue ≡ [] = none_by (host_at s h).queue e in
+    let none : (host_at s h).queue ≡ [] = none_by _ e in
     let same : with_host s h (record (host_at s h) { queue = [] }) ≡ s =
-    ap (λ (host : HostState). with_host s h host) (emptied (host_at s h) none) ∙ ap (λ (hosts : List HostState). record s { hosts = hosts }) (set-get_or s.hosts h no_host) in
+    ap (λ (host : HostState). with_host s h host) (emptied _ none) ∙ ap (λ (hosts : List HostState). record s { hosts = hosts }) (set-get_or s.hosts h no_host) in
     sym (ap (λ (q : List Message). all_returned q (with_host s h (record (host_at s h) { queue = [] }))) none ∙ same)
 
 -- a host without answers, and then without messages, is one for which nothing waits

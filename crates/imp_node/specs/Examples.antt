@@ -85,7 +85,7 @@ from_3_near_2 = infinite ∷ 1 ∷ 0 ∷ replicate (most_imps - 3) infinite
 
 -- an IMP with two hosts, which heard this on its ports, and with these waiting packets
 abbrev pub imp : ℕ → List (Option (List ℕ)) → List PacketFields → State
-imp own heard store = record (opening_node own 2 (length heard)) { routes = record { own = own; heard = heard }; store = store }
+imp own heard store = record (opening_node own 2 (length heard)) { routes = record { own = own; heard = heard; claims = false }; store = store }
 
 -- IMP 1 with port 0 to IMP 2 and port 1 to IMP 3, each heard, after it has stored this many packets for IMP 2
 abbrev pub busy : ℕ → State
@@ -101,7 +101,7 @@ queueing queue = record (opening_node 1 2 0) { hosts = up_host ∷ record up_hos
 
 -- IMP 1 with port 0 to IMP 2, which it has heard, and two hosts; these messages wait for host 0
 abbrev pub serving : List Message → State
-serving queue = record (opening_node 1 2 1) { hosts = record up_host { queue = queue } ∷ up_host ∷ []; routes = record { own = 1; heard = Some from_2 ∷ [] } }
+serving queue = record (opening_node 1 2 1) { hosts = record up_host { queue = queue } ∷ up_host ∷ []; routes = record { own = 1; heard = Some from_2 ∷ []; claims = false } }
 
 -- slots of this many flows, each with the first packet of a longer message
 abbrev pub slots_of : ℕ → List SlotState

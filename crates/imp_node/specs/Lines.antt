@@ -5,7 +5,7 @@ use Rattle.interface.specs.declared.carrier.CarrierFault.TheVariants as fault
 use Rattle.imp_channel.specs.Holding.{packets_in}
 use Rattle.imp_channel.specs.Line.{resent, routes_frame}
 use Rattle.imp_channel.specs.declared.frame.Frame.{Frame}
-use Rattle.routing.specs.RouteTable.{vector_of, loses}
+use Rattle.routing.specs.RouteTable.{vector_of, claiming, loses}
 use Rattle.imp_node.specs.declared.outgoing.Outgoing.{Outgoing}
 use Rattle.imp_node.specs.declared.port.Port.{Port}
 use Rattle.imp_node.specs.State.{State, ImpTurn, port_at, down_port, with_port}
@@ -27,7 +27,7 @@ resent_from k (port ∷ ports) = resent_by k port ++ resent_from (k + 1) ports
 abbrev pub resend : State → ImpTurn
 resend s = pump (resent_from 0 s.ports) s
 
--- ---- route: the IMP's distances on each line that is live here
+-- ---- route: what the IMP announces on each line that is live here
 
 abbrev pub told_by : List ℕ → ℕ → Port → List Outgoing
 told_by distances k port = if port.up then on_port k (routes_frame port.line distances) ∷ [] else []
@@ -39,6 +39,11 @@ told_from distances k (port ∷ ports) = told_by distances k port ++ told_from d
 
 abbrev pub route : State → ImpTurn
 route s = pump (told_from (vector_of s.routes) 0 s.ports) s
+
+-- ---- claim: from now on it announces that it is at distance 0 from every IMP
+
+abbrev pub claim : State → ImpTurn
+claim s = pump [] (record s { routes = claiming s.routes })
 
 -- ---- an end goes down or up
 

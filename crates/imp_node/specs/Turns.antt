@@ -11,7 +11,7 @@ use Rattle.imp_node.specs.declared.waiting.Told.{Told}
 use Rattle.imp_node.specs.State.{State, ImpTurn, host_at, is_up, port_at}
 use Rattle.imp_node.specs.Arrival.{from_line}
 use Rattle.imp_node.specs.Taking.{to_host}
-use Rattle.imp_node.specs.Lines.{resend, route, end_down, end_up}
+use Rattle.imp_node.specs.Lines.{resend, route, claim, end_down, end_up}
 use Rattle.imp_node.specs.Room.{has_route}
 use Rattle.imp_node.specs.Asking.{ask}
 use Rattle.imp_node.specs.Stopping.{give_up, forget, abandon, host_down, host_up}
@@ -50,6 +50,9 @@ resend_grows s = sends (resend s)
 
 abbrev pub route_grows : State → Bool
 route_grows s = sends (route s)
+
+abbrev pub claim_grows : State → Bool
+claim_grows s = sends (claim s)
 
 -- the packets of busy channels move into the store
 abbrev pub end_down_grows : State → ℕ → Bool

@@ -16,7 +16,7 @@ ghost use Rattle.imp_node.specs.Arrival.{Old, arrival, from_line, ignored};
 ghost use Rattle.imp_node.specs.Examples.{host, flow, only_packet, packets_to, packet_frame, ack_frame, imp, busy};
 ghost use Rattle.imp_node.specs.Examples.{serving, slots_of, empty_message, sent_imp, sent_answered, sent_never, noting, after_question, told_back, question_from, sent_within};
 ghost use Rattle.imp_node.specs.Flows.{answer_packet, is_idle, noted};
-ghost use Rattle.imp_node.specs.Lines.{on_port, route, resend, end_down, end_up};
+ghost use Rattle.imp_node.specs.Lines.{on_port, route, claim, resend, end_down, end_up};
 ghost use Rattle.imp_node.specs.Asking.{ask, ask_refusal};
 ghost use Rattle.imp_node.specs.Contents.{packets};
 ghost use Rattle.imp_node.specs.Making.{Leaves, from_host_makes, from_line_makes, to_host_makes, ask_makes, host_down_makes};
@@ -61,6 +61,7 @@ pub fn holding()
     // no other call makes a packet
     ensures resend { (s : State) → Leaves s [] (resend s) }
     ensures route { (s : State) → Leaves s [] (route s) }
+    ensures claim { (s : State) → Leaves s [] (claim s) }
     ensures end_down { (s : State) (k : ℕ) → Leaves s [] (end_down s k) }
     ensures end_up { (s : State) (k : ℕ) → Leaves s [] (end_up s k) }
     ensures give_up { (s : State) (f : Flow) → Leaves s [] (give_up s f) }
@@ -92,6 +93,7 @@ pub fn sound()
     ensures to_host { (imp : ℕ) (s : State) (h : ℕ) → IsImp imp s → IsImp imp (to_host s h).state }
     ensures resend { (imp : ℕ) (s : State) → IsImp imp s → IsImp imp (resend s).state }
     ensures route { (imp : ℕ) (s : State) → IsImp imp s → IsImp imp (route s).state }
+    ensures claim { (imp : ℕ) (s : State) → IsImp imp s → IsImp imp (claim s).state }
     ensures end_down { (imp : ℕ) (s : State) (k : ℕ) → IsImp imp s → IsImp imp (end_down s k).state }
     ensures end_up { (imp : ℕ) (s : State) (k : ℕ) → IsImp imp s → IsImp imp (end_up s k).state }
     ensures give_up { (imp : ℕ) (s : State) (f : Flow) → give_up_refusal s f ≡ None → IsImp imp s → IsImp imp (give_up s f).state }
@@ -257,7 +259,7 @@ pub fn worked_restarts()
     ensures answer_cleared { is_idle (host_down (sent_answered 0).state 0).state (flow (host 0 1) (host 0 2) 7) ≡ true }
 
     // an end that comes up is as just reset, has heard nothing, and sends nothing
-    ensures end_comes_up { end_up (end_down (serving []) 0).state 0 ≡ record { state = record (serving []) { routes = record { own = 1; heard = None ∷ [] } }; frames = [] } }
+    ensures end_comes_up { end_up (end_down (serving []) 0).state 0 ≡ record { state = record (serving []) { routes = record { own = 1; heard = None ∷ []; claims = false } }; frames = [] } }
 
     // one slot is thrown away, and nothing else changes: no number is noted
     ensures slot_thrown_away { abandon (record (serving []) { slots = slots_of 2 }) (flow (host 0 2) (host 0 1) 1) ≡ record { state = record (serving []) { slots = slots_of 1 }; frames = [] } }

@@ -8,7 +8,7 @@ ghost use Rattle.routing.specs.RouteTable.{loses};
 ghost use Rattle.imp_node.specs.State.{port_at, down_port, with_port};
 ghost use Rattle.imp_node.specs.Lines as lines;
 ghost use Rattle.imp_node.specs.Lines.{on_port};
-ghost use Rattle.imp_node.specs.Turns.{Turned, Takes, sends, resend_grows, route_grows, end_down_grows, end_up_grows};
+ghost use Rattle.imp_node.specs.Turns.{Turned, Takes, sends, resend_grows, route_grows, claim_grows, end_down_grows, end_up_grows};
 
 use crate::outgoing::push_frame;
 use crate::port::Port;
@@ -65,6 +65,29 @@ impl Imp {
         let spare = self.spare.take(self.alloc);
         let frames = told_from(spare, &self.routes.vector(), &self.ports)?;
         self.pump(frames)
+    }
+
+    /// Claims from now on to be at distance 0 from every IMP. It answers the frames to put on lines.
+    ///
+    /// Errors: only `OutOfMemory`, only where a frame is sent, and then the IMP is spent.
+    pub fn claim(&mut self) -> Result<Vec<Outgoing>, CarrierFault>
+        requires { self.old.spent ≡ false }
+        ensures turn { Turned None (claim_grows self.old) (λ frames. Takes (lines.claim self.old) self.new frames.items) self.old self.new result }
+        ensures live { OnOk result (self.new.spent ≡ false) }
+    {
+        let Ok(frames) = self.claimed() else {
+            return Err(self.exhaust());
+        };
+        Ok(frames)
+    }
+
+    /// Claims it, and pumps.
+    fn claimed(&mut self) -> Result<Vec<Outgoing>, AllocError>
+        ensures ok { IfOk result (λ frames. Takes (lines.claim self.old) self.new frames.items) }
+        ensures memory { OnErr result (claim_grows self.old ≡ true) }
+    {
+        self.routes.claim();
+        self.pump_alone()
     }
 
     /// Returns how many ports it has.

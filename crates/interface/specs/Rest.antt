@@ -1,6 +1,6 @@
 -- When a network rests, and when it refuses an offer.
-use Rattle.std.specs.Prelude.{◌≡◌, false, Option, Some, None, Result, Ok, Err}
-use Rattle.interface.specs.Host.{Host}
+use Rattle.std.specs.Prelude.{◌≡◌, false, List, Option, Some, None, Result, Ok, Err}
+use Rattle.interface.specs.Host.{Host, is_host}
 use Rattle.interface.specs.Calls.{is_halt, is_memory}
 use Rattle.interface.specs.declared.carrier.CarrierFault.{CarrierFault}
 use Rattle.interface.specs.declared.crossing.Inbound.{Inbound}
@@ -18,10 +18,12 @@ pub record TakesNothing {C : Type 0} (takes : C → Host → Result (Option Inbo
   pub nothing : BringsNothing answer
   pub unchanged : takes c h answer c
 
--- a carrier rests: a quiet round leaves it as it is, and so does a taking of any host, which brings nothing
-pub record Rests {C : Type 0} (rounds : C → Result (Unit {0}) CarrierFault → C → Type 0) (takes : C → Host → Result (Option Inbound) CarrierFault → C → Type 0) (c : C) : Type 0 where
+-- a carrier rests beside these hosts, for which anything may wait: a quiet round leaves it as it is, and so does a taking of any
+-- other host, which brings nothing
+pub record RestsBeside {C : Type 0} (rounds : C → Result (Unit {0}) CarrierFault → C → Type 0)
+    (takes : C → Host → Result (Option Inbound) CarrierFault → C → Type 0) (hosts : List Host) (c : C) : Type 0 where
   pub round : rounds c (Ok tt) c
-  pub takings : (h : Host) → TakesNothing takes c h
+  pub takings : (h : Host) → is_host hosts h ≡ false → TakesNothing takes c h
 
 -- an offer of this message may be refused, though memory lasts, and leave the carrier as it is
 pub record RefusesOffer {C : Type 0} (offers : C → HostMessage → Result (Unit {0}) CarrierFault → C → Type 0) (c : C) (m : HostMessage) : Type 0 where

@@ -3,7 +3,7 @@
 ghost use Rattle.std.specs.Prelude.{◌≡◌, reverse, true, false};
 ghost use Rattle.interface.specs.Mailboxes.{IsRun};
 ghost use Rattle.interface.specs.Calls.{Calls, InOrder, ShowsOffer, ShowsTake, ShowsStep, ShowsRound};
-ghost use Rattle.interface.specs.Rest.{RefusesOffer, Rests};
+ghost use Rattle.interface.specs.Rest.{RefusesOffer, RestsBeside};
 
 use crate::{Crossing, HostAddr, HostMessage, Inbound, NetEvent};
 use thiserror::Error;
@@ -84,12 +84,12 @@ pub trait Carrier: Drop {
         ensures relation { calls.rounds self.old result self.new }
         ensures shown { ShowsRound (calls.seen self.old) result (calls.seen self.new) };
 
-    /// Returns whether it is known that the network rests: a quiet round leaves it as it is, and so does a taking of
-    /// any host, which brings nothing. A carrier may answer `false` though it rests, and one that doesn't say otherwise
-    /// does. This takes no memory.
-    fn rests(&self) -> bool
+    /// Returns whether it is known that the network rests beside these hosts, for which anything may wait: a quiet round
+    /// leaves it as it is, and so does a taking of any other host, which brings nothing. A carrier may answer `false`
+    /// though it rests so, and one that doesn't say otherwise does. This takes no memory.
+    fn rests_beside(&self, hosts: &[HostAddr]) -> bool
         ensures running { result ≡ true → (calls.seen self.now).stopped ≡ false }
-        ensures unchanged { result ≡ true → Rests calls.rounds calls.takes self.now }
+        ensures unchanged { result ≡ true → RestsBeside calls.rounds calls.takes hosts.now self.now }
     {
         false
     }

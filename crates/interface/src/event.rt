@@ -45,6 +45,8 @@ pub enum NetEvent {
     Resend(ImpNumber),
     /// An IMP sends its neighbours its distances.
     Route(ImpNumber),
+    /// An IMP claims from now on, until it stops, that it is at distance 0 from every IMP.
+    Claim(ImpNumber),
     /// An IMP's end of a line stops.
     EndDown {
         /// The IMP whose end it is.

@@ -39,7 +39,7 @@ single answer.NotTaken = refl
 quiet_unanswered : (s d : Bool) (ks : List Answer) (box : Box) → FitsBox s d [] ks box → (b : Bool) → s ≡ b → is_unanswered (pending_of [] ks) ≡ list_any is_rfnm ks
 quiet_unanswered s d ks box h false e = let P : List Answer → Type 0 = λ x. is_unanswered (pending_of [] x) ≡ list_any is_rfnm x in subst P (sym (h.shut e)) refl
 quiet_unanswered s d ks box h true e = elim (h.told e refl) [
-  | inl (none, empty) ↦ (let P : List Answer → Type 0 = λ x. is_unanswered (pending_of [] x) ≡ list_any is_rfnm x in subst P (sym none) refl)
+  | inl (none, _) ↦ (let P : List Answer → Type 0 = λ x. is_unanswered (pending_of [] x) ≡ list_any is_rfnm x in subst P (sym none) refl)
   | inr (k, one, fit) ↦ (let P : List Answer → Type 0 = λ x. is_unanswered (pending_of [] x) ≡ list_any is_rfnm x in subst P (sym one) (sym (single k)))
 ]
 

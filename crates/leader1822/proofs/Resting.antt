@@ -1,9 +1,11 @@
--- Plain boxes rest while their map by flow is empty.
-use Rattle.leader1822.proofs.Common.{empty, get, get-empty, Host, is_host, flow_cmp, AllAnswered, Boxes, BoxesRound, BoxesTake, WaitingAnswer, for_host, first_of_list, next_for, answer_first, texts_of, kinds_of, texts_for, kinds_for, AreTo, AreToldTo, Matches, Flow, HostMessage}
-use Rattle.std.proofs.Common.{◌≡◌, inl, inr, Bool, true, false, ◌||◌, List, [], ◌∷◌, Option, Some, None, is_some, Ok, Err, refl, ap, sym, ◌∙◌}
-use Rattle.std.proofs.lemmas.Bool.{or_right, or_left}
-use Rattle.interface.specs.Rest.{Rests, TakesNothing}
+-- Plain boxes rest while nothing waits, as where their map by flow is empty; and beside hosts for which something does.
+use Rattle.leader1822.proofs.Common.{arith, length, empty, get, get-empty, Host, is_host, same_host, flow_cmp, AllAnswered, Boxes, BoxesRound, BoxesTake, WaitingAnswer, for_host, first_of_list, next_for, answer_first, texts_of, kinds_of, texts_for, kinds_for, AreTo, AreToldTo, Matches, Flow, HostMessage}
+use Rattle.std.proofs.Common.{◌≡◌, inl, inr, Bool, true, false, ◌==◌, ◌&&◌, ◌||◌, List, [], ◌∷◌, Option, Some, None, is_some, Ok, Err, refl, ap, sym, ◌∙◌}
+use Rattle.std.proofs.lemmas.Bool.{and_parts, eqb-true, or_cases, or_right, or_left}
+use Rattle.std.specs.List.{list_all}
+use Rattle.interface.specs.Rest.{RestsBeside, TakesNothing}
 use Rattle.leader1822.specs.Inside.Held.{Flows, Held, IsIndexed, IsKept}
+use Rattle.leader1822.specs.Inside.Quiet.{AreEmptyBeside, has_none_beside}
 use Rattle.interface.specs.declared.carrier.CarrierFault.TheVariants as fault
 use Rattle.interface.proofs.lemmas.{same_flow-refl, same_host-true}
 use Rattle.leader1822.proofs.Waiting.{has_any}
@@ -43,18 +45,51 @@ none_waits c h k goes none =
     ap (λ (o : Option WaitingAnswer). answer_first o (first_of_list (for_host c.boxes.messages h))) (no_answer c h (for_host c.boxes.answers h) i none (m.told h) refl)
     ∙ ap (λ (o : Option HostMessage). answer_first None o) (no_message c h (for_host c.boxes.messages h) i none (m.sent h) refl)
 
-taking : (b : Boxes) (h : Host) → b.stopped ≡ false → next_for b h ≡ None → TakesNothing BoxesTake b h
+-- ---- nothing waits but for some hosts
+
+no_first : {A : Type 0} (q : List A) → (length q == 0) ≡ true → first_of_list q ≡ None
+no_first [] e = refl
+no_first (x ∷ q) e = let no = eqb-true (length (x ∷ q)) 0 e in absurd (omega (arith, no))
+
+none_beside : (b : Boxes) (hosts : List Host) (h : Host) → has_none_beside b hosts h ≡ true → is_host hosts h ≡ false → next_for b h ≡ None
+none_beside b hosts h none other =
+    elim (or_cases (length (for_host b.messages h) == 0 && length (for_host b.answers h) == 0) (is_host hosts h) none) [
+      | inl empty ↦
+          let both = and_parts (length (for_host b.messages h) == 0) (length (for_host b.answers h) == 0) empty in
+          ap (λ (o : Option WaitingAnswer). answer_first o (first_of_list (for_host b.messages h))) (no_first (for_host b.answers h) both.1)
+          ∙ ap (λ (o : Option HostMessage). answer_first None o) (no_first (for_host b.messages h) both.0)
+      | inr one ↦ absurd (let no : false ≡ true = sym other ∙ one in cc)
+    ]
+
+-- what each of these hosts has, any has that is one of them
+each_has : (test : Host → Bool) (all : List Host) (h : Host) → list_all test all ≡ true → is_host all h ≡ true → test h ≡ true
+each_has test [] h has there = absurd (cc)
+each_has test (g ∷ all) h has there = by (same_host h g) refl there (each_has test all h both.1) where
+  both : (test g ≡ true) × (list_all test all ≡ true)
+  both = and_parts (test g) (list_all test all) has
+
+  by : (s : Bool) → same_host h g ≡ s → (same_host h g || is_host all h) ≡ true → (is_host all h ≡ true → test h ≡ true) → test h ≡ true
+  by true same t others = ap test (same_host-true h g same) ∙ both.0
+  by false same t others = others (rw same at t)
+
+pub all_beside : (b : Boxes) (hosts : List Host) → list_all (has_none_beside b hosts) b.hosts ≡ true → AreEmptyBeside b hosts
+all_beside b hosts all h there other = none_beside b hosts h (each_has (has_none_beside b hosts) b.hosts h all there) other
+
+pub empty_beside : (b : Boxes) (hosts : List Host) → ((h : Host) → next_for b h ≡ None) → AreEmptyBeside b hosts
+empty_beside b hosts none h there other = none h
+
+taking : (b : Boxes) (h : Host) → b.stopped ≡ false → (is_host b.hosts h ≡ true → next_for b h ≡ None) → TakesNothing BoxesTake b h
 taking b h goes none = by (is_host b.hosts h) refl (is_host b.down h) refl where
   by : (there : Bool) → is_host b.hosts h ≡ there → (down : Bool) → is_host b.down h ≡ down → TakesNothing BoxesTake b h
   by false t down d = record { answer = Err fault.NoSuch; nothing = (refl, refl); unchanged = (rw (goes, t) refl, refl) }
   by true t true d = record { answer = Err fault.IsDown; nothing = (refl, refl); unchanged = (rw (goes, t, d) refl, refl) }
-  by true t false d = record { answer = Ok None; nothing = tt; unchanged = (rw (goes, t, d) refl, (sym none, refl)) }
+  by true t false d = record { answer = Ok None; nothing = tt; unchanged = (rw (goes, t, d) refl, (sym (none t), refl)) }
 
--- where nothing waits for any host, they rest
-pub boxes_rest : (b : Boxes) → b.stopped ≡ false → ((h : Host) → next_for b h ≡ None) → Rests BoxesRound BoxesTake b
-boxes_rest b goes none = record {
+-- where nothing waits but for these hosts, they rest beside them
+pub boxes_rest : (b : Boxes) (hosts : List Host) → b.stopped ≡ false → AreEmptyBeside b hosts → RestsBeside BoxesRound BoxesTake hosts b
+boxes_rest b hosts goes none = record {
   round = (goes, refl);
-  takings = λ h. taking b h goes (none h);
+  takings = λ h other. taking b h goes (λ there. none h there other);
 }
 
 pub all_answered : (b : Boxes) → Matches b → ((h : Host) → next_for b h ≡ None) → AllAnswered b

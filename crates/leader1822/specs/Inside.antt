@@ -2,5 +2,6 @@
 pub mod Codes
 pub mod Held
 pub mod Named
+pub mod Quiet
 pub mod Shown
 pub mod Soundness

@@ -2,6 +2,7 @@
 
 ghost use Rattle.std.specs.Prelude.{◌≡◌, ◌++◌, [], ◌∷◌, not, true, false, reverse, OnOk, OnErr, IfOk, IsSome, None, filter, length};
 ghost use Rattle.std.specs.FinMap as map;
+ghost use Rattle.std.specs.List.{list_all};
 ghost use Rattle.interface.specs.Host.{Host, is_host, same_host};
 ghost use Rattle.leader1822.specs.Boxes as boxes;
 ghost use Rattle.leader1822.specs.Boxes.{queued_if, told_dead};
@@ -9,6 +10,7 @@ ghost use Rattle.leader1822.specs.Inside.Held.{IsIndexed, IsKept, is_message, is
 ghost use Rattle.leader1822.specs.Inside.Held.{held_started, with_answer, with_answer_for_running, with_dead, with_message};
 ghost use Rattle.leader1822.specs.Inside.Held.{without_answers, without_first_answer, without_first_message, without_message, without_rfnm};
 ghost use Rattle.leader1822.specs.Inside.Named.{IsNamed};
+ghost use Rattle.leader1822.specs.Inside.Quiet.{AreEmptyBeside, has_none_beside};
 ghost use Rattle.leader1822.specs.Inside.Shown.{waiting_in};
 ghost use Rattle.leader1822.specs.Inside.Soundness.{KeepsLog};
 ghost use Rattle.interface.specs.declared.carrier.CarrierFault.TheVariants.{OutOfMemory};
@@ -177,6 +179,30 @@ impl Contents {
         ensures { result ≡ true → (h : Host) → boxes.next_for self.now.boxes h ≡ None }
     {
         self.flows.is_empty()
+    }
+
+    /// Returns whether nothing waits for any host of the network but these.
+    #[tactic(auto, using(crate::proofs::Resting::empty_beside, crate::proofs::Resting::all_beside))]
+    pub(crate) fn is_empty_beside(&self, hosts: &[HostAddr]) -> bool
+        requires kept { IsKept self.now }
+        requires running { self.now.boxes.stopped ≡ false }
+        ensures { result ≡ true → AreEmptyBeside self.now.boxes hosts.now }
+    {
+        self.is_empty() || self.all_have_none_beside(self.hosts(), hosts)
+    }
+
+    /// Returns whether nothing waits for any of `all` but for such as are among these hosts.
+    fn all_have_none_beside(&self, all: &[HostAddr], hosts: &[HostAddr]) -> bool
+        ensures { result ≡ list_all (has_none_beside self.now.boxes hosts.now) all.now }
+    {
+        all.iter().all(|host| self.has_none_beside(host, hosts))
+    }
+
+    /// Returns whether nothing waits for a host, or it is one of these.
+    fn has_none_beside(&self, host: &HostAddr, hosts: &[HostAddr]) -> bool
+        ensures { result ≡ has_none_beside self.now.boxes hosts.now host.now }
+    {
+        (self.messages.count(host) == 0 && self.answers.count(host) == 0) || hosts.contains(host)
     }
 
     // ---- refusing

@@ -150,9 +150,9 @@ impl Carrier for PlainBoxes {
         Ok(())
     }
 
-    /// Returns `true` while nothing waits for any host, since nothing is in transit here. It is always known.
-    fn rests(&self) -> bool {
-        !self.contents.has_stopped() && self.contents.is_empty()
+    /// Returns `true` while nothing waits for any host but these, since nothing is in transit here. It is always known.
+    fn rests_beside(&self, hosts: &[HostAddr]) -> bool {
+        !self.contents.has_stopped() && self.contents.is_empty_beside(hosts)
     }
 
     fn log(&self) -> &[Crossing] {

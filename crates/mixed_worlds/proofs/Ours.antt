@@ -18,6 +18,8 @@ use Rattle.world_keeps_lives.proofs.lemmas.{handed_among}
 use Rattle.world_keeps_lives.proofs.lemmas.Laws as laws
 use Rattle.world_keeps_streams.proofs.lemmas.{among_there, in_beside, took_all}
 use Rattle.world_keeps_streams.specs.Laws as streams
+use Rattle.mixed_worlds.specs.Arrived.{BetweenAmong}
+use Rattle.world_keeps_streams.specs.Between.{IsBetween}
 use Rattle.mixed_worlds.proofs.Contacts.{same_course, same_stage}
 use Rattle.mixed_worlds.proofs.SameBooks.{same_fates, same_handed, same_lives}
 
@@ -165,6 +167,11 @@ module _ (law : streams.Among) (hosts : Network) (moments : List Moment) (addres
 
   pub sent : EachWasSent log lives
   sent = subst (λ (xs : List Life). EachWasSent log xs) (same_lives hosts.strange moments) (law.was_sent hosts moments all)
+
+  pub between : BetweenAmong hosts.strange log lives
+  between place m crossed off source destination =
+      subst (λ (xs : List Life). IsBetween log xs place m) (same_lives hosts.strange moments)
+      (law.between hosts moments all place m crossed off (source, destination))
 
   pub arrived : ArrivedAmong hosts.strange (contacts_among hosts.strange (contacts_of moments)) log lives fates
   arrived = record {

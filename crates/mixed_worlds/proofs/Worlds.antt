@@ -6,10 +6,11 @@ use Rattle.promise.specs.Safe.{receives, sends, IsGranted, IsPrefix, SafeBook}
 use Rattle.mixed_worlds.specs.Toward.{HasAsked, IsCarried, AreOnce}
 use Rattle.promise.specs.Formed.{FormedBook}
 use Rattle.interface.specs.Mailboxes.{IsRun}
+use Rattle.mixed_worlds.specs.Arrived.{BetweenAmong}
 use Rattle.mixed_worlds.specs.Told.{ToldAmong}
 use Rattle.interface.specs.Calls.{Seen}
 use Rattle.promise.specs.Ends.{AreContacts, AreLeft}
-use Rattle.net_sim.specs.MixedWorlds.{IsLawfulAmong}
+use Rattle.net_sim.specs.Clean.{IsLawfulAmong}
 use Rattle.net_sim.specs.Told.{without_reports}
 use Rattle.net_sim.specs.World.{WorldState}
 use Rattle.world_keeps_lives.specs.Lives.{IsBounded}
@@ -72,6 +73,8 @@ module _ {C : Type 0} (strange : Host → Bool) (seen : C → Seen) (hosts : Lis
         (lives_among strange k.book.lives)) (law.within strange hosts moments world_mixed);
     sent = kept (λ xs k. EachWasSent xs (lives_among strange k.book.lives))
         (law.sent strange hosts moments world_mixed);
+    between = kept (λ xs k. BetweenAmong strange xs (lives_among strange k.book.lives))
+        (law.between strange hosts moments world_mixed);
     granted = kept (λ xs k. EachIsWithin xs (lives_among strange k.book.lives))
         (law.granted strange hosts moments world_mixed);
     joined = kept (λ xs k. JoinedBook (record k.book {

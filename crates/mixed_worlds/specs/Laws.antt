@@ -25,7 +25,7 @@ use Rattle.promise.specs.Safe.{IsGranted, IsPrefix, Match, SafeBook, receives, s
 use Rattle.promise.specs.declared.book.Called.{Called}
 use Rattle.promise.specs.declared.life.Fate.{Fate}
 use Rattle.promise.specs.declared.life.Life.{Life}
-use Rattle.net_sim.specs.MixedWorlds.{IsLawfulAmong}
+use Rattle.net_sim.specs.Clean.{IsLawfulAmong}
 use Rattle.net_sim.specs.Reports.{IsBacked}
 use Rattle.net_sim.specs.Story.{Crossed, Moment, program}
 use Rattle.net_sim.specs.Timeline.{contacts_of, crossings_of}
@@ -36,7 +36,7 @@ use Rattle.world_keeps_streams.specs.Rests.{Agree, AreOpen}
 use Rattle.world_keeps_streams.specs.Granted.{EachIsWithin}
 use Rattle.world_keeps_streams.specs.Sent.{EachWasSent}
 use Rattle.world_keeps_streams.specs.Within.{CountNothingLater}
-use Rattle.mixed_worlds.specs.Arrived.{ArrivedAmong}
+use Rattle.mixed_worlds.specs.Arrived.{ArrivedAmong, BetweenAmong}
 use Rattle.mixed_worlds.specs.Book.{beside_among, book_among, contacts_among, lives_among, mixed_kept, without_strangers}
 use Rattle.world_keeps_lives.specs.SomeEnd.{HasSome}
 use Rattle.mixed_worlds.specs.Mixed.{IsMixed}
@@ -107,6 +107,10 @@ pub record Among : Type 0 where
   pub sent :
       (strange : Host → Bool) (hosts : List Host) (moments : List Moment) → IsMixed strange hosts moments →
       EachWasSent (crossings_of moments) (lives_among strange (mixed_kept strange moments).book.lives)
+  -- each message of data that went out among them is one of a sending life, which a receiving one matches
+  pub between :
+      (strange : Host → Bool) (hosts : List Host) (moments : List Moment) → IsMixed strange hosts moments →
+      BetweenAmong strange (crossings_of moments) (lives_among strange (mixed_kept strange moments).book.lives)
   -- and what a sending one sent is within what the ALLs grant on its link that its host took
   pub granted :
       (strange : Host → Bool) (hosts : List Host) (moments : List Moment) → IsMixed strange hosts moments →
@@ -203,9 +207,10 @@ pub record Toward : Type 0 where
 -- among them loses nothing, and a finished initial connection pairs the right four sockets. Each of these lives has its
 -- fate (`fated`), which what crossed and the contacts among these hosts leave it (`over`); a contact among them is
 -- followed by an RST (`contacts`); what a life counts crossed before it was over (`within`), and the k-th message that a
--- receiving one counts is the k-th of the one that it matches (`sent`); what a sending one sent is within what the ALLs
--- grant that its host took (`granted`); and an open one has all that came for it, so
--- RFNM of data among these hosts means that they have arrived (`arrived`)
+-- receiving one counts is the k-th of the one that it matches (`sent`); each message of data among these hosts is one
+-- of a sending life, which a receiving one matches (`between`); what a sending one sent is within what the ALLs grant
+-- that its host took (`granted`); and an open one has all that came for it, so RFNM of data among these hosts means that
+-- they have arrived (`arrived`)
 pub record KeepsAmong {C : Type 0} (strange : Host → Bool) (hosts : List Host) (w : WorldState C) : Type 0 where
   pub run : IsRun hosts w.kept.book.crossings
   pub formed : FormedBook w.kept.book.crossings (lives_among strange w.kept.book.lives)
@@ -224,6 +229,7 @@ pub record KeepsAmong {C : Type 0} (strange : Host → Bool) (hosts : List Host)
   pub within : CountNothingLater (contacts_among strange w.kept.book.contacts) w.kept.book.crossings
       (lives_among strange w.kept.book.lives)
   pub sent : EachWasSent w.kept.book.crossings (lives_among strange w.kept.book.lives)
+  pub between : BetweenAmong strange w.kept.book.crossings (lives_among strange w.kept.book.lives)
   pub granted : EachIsWithin w.kept.book.crossings (lives_among strange w.kept.book.lives)
   pub joined : JoinedBook (record w.kept.book { lives = lives_among strange w.kept.book.lives })
 

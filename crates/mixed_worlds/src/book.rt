@@ -2,7 +2,7 @@
 
 ghost use Rattle.std.specs.Prelude.{◌≡◌};
 ghost use Rattle.mixed_worlds.specs.Laws.{KeepsAmong, KeepsToward};
-ghost use Rattle.net_sim.specs.MixedWorlds.{strange_in};
+ghost use Rattle.net_sim.specs.Steps.{strange_in};
 
 use crate::law::worlds;
 use interface::Carrier;
@@ -14,9 +14,9 @@ use net_sim::{Book, MixedWorld};
 /// - `among`: `KeepsAmong`, of hosts that run the program among each other. What crossed is a run of the mailboxes;
 ///   lives and notices of data are made of what crossed; the lives are safe; an orderly close loses nothing; what
 ///   crossed leaves each life its fate, after a contact an RST goes out next, and a life that is over counts nothing
-///   later; the k-th message that a receiving one counts is the k-th of the one that it matches; RFNM of data among
-///   these hosts means that they arrived, unless the receiving end was closing or gone; and a finished initial
-///   connection pairs the right four sockets.
+///   later; the k-th message that a receiving one counts is the k-th of the one that it matches; each message of data
+///   is one of a sending life, which a receiving one matches; RFNM of data among these hosts means that they arrived,
+///   unless the receiving end was closing or gone; and a finished initial connection pairs the right four sockets.
 /// - `toward`: `KeepsToward`, of each such host toward all others, strangers too. Both requests of a life crossed, and are
 ///   no other life's; its bits are those of messages on one link, which one of the two names; what was sent is a prefix
 ///   of what was handed over, and within what the peer's ALLs name on that link; and what was taken is within what was

@@ -5,7 +5,7 @@ ghost use Rattle.host_pairs.specs.declared.notice.Notice.TheVariants as notice;
 ghost use Rattle.promise.specs.Ends.{AreContacts, Dropped, Over, crosses};
 ghost use Rattle.promise.specs.Safe.{IsGranted};
 ghost use Rattle.sockets.specs.Sending.{next_out};
-ghost use Rattle.sockets.specs.Worked.{ALL, STR, control, first, on_link, second, third};
+ghost use Rattle.sockets.specs.Worked.{ALL, STR, control, first, message, on_link, second, third};
 ghost use Rattle.interface.specs.declared.crossing.Answer.TheVariants as answer;
 ghost use Rattle.interface.specs.declared.crossing.Crossing.TheVariants as crossing;
 ghost use Rattle.net_sim.specs.Book.{carried, new_life};
@@ -17,7 +17,7 @@ ghost use Rattle.net_sim.specs.WorkedResets.{rrp, rst};
 ghost use Rattle.mixed_worlds.specs.Mixed.{AreMixed};
 ghost use Rattle.mixed_worlds.specs.Worked.{is_third, listener_taken, three};
 ghost use Rattle.promise.specs.Formed.{IsFormed};
-ghost use Rattle.mixed_worlds.specs.Arrived.{ArrivedAmong};
+ghost use Rattle.mixed_worlds.specs.Arrived.{ArrivedAmong, BetweenAmong};
 ghost use Rattle.mixed_worlds.specs.Book.{beside_among, contacts_among, lives_among, mixed_kept};
 ghost use Rattle.mixed_worlds.specs.Toward.{AreOf, AreOnce, HasAsked, IsCarried, IsNamed, IsWithin, NamesItself};
 ghost use Rattle.mixed_worlds.specs.Toward.{ReportsData, granted_to};
@@ -225,4 +225,11 @@ pub fn worked_arrived()
 
     // all else is said of any lives as where there are no strangers
     ensures as_any { AsArrived }
+{}
+
+/// Between which lives data go: between two hosts with programs, and not where a stranger is at one end.
+pub fn worked_between()
+    ensures source { BetweenAmong is_third (crossing.Out eight_bits ∷ []) [] }
+    ensures destination { BetweenAmong is_third (crossing.Out (message second third 2 []) ∷ []) [] }
+    ensures unsent { BetweenAmong is_third (crossing.Out plain_bits ∷ []) [] → ⊥ }
 {}

@@ -24,7 +24,7 @@ pub use Rattle.interface.specs.Calls.{Calls, InOrder, Seen, ShowsCrossings, Show
 pub use Rattle.interface.specs.Host.{Host, IsAddress, is_host, same_host}
 pub use Rattle.interface.specs.Mailboxes.{same_flow}
 pub use Rattle.interface.specs.Messages.{SafeMessages}
-pub use Rattle.interface.specs.Rest.{RefusesOffer, Rests}
+pub use Rattle.interface.specs.Rest.{RefusesOffer, RestsBeside}
 pub use Rattle.interface.specs.declared.address.Flow.{Flow}
 pub use Rattle.interface.specs.declared.carrier.CarrierFault.{CarrierFault}
 pub use Rattle.interface.specs.declared.crossing.Answer.{Answer}
@@ -57,13 +57,14 @@ pub use Rattle.net_sim.specs.Inside.Undo.{GoesBack, IsEndNoted, IsNoted, Undo, a
 pub use Rattle.net_sim.specs.Projection.{Agrees, AllPlain, ArePlain, IsApart, IsPlain, IsQueued, event_by, event_of, has_asked, has_control, is_alone, is_rrp, is_rst, message_on, names_control, on_control}
 pub use Rattle.net_sim.specs.Reports.{IsBacked, IsRunning, ServerIsDone, UserIsDone, told_to}
 pub use Rattle.net_sim.specs.SmallLogs.{given_log, moved, taken_log}
+pub use Rattle.net_sim.specs.Steps.{RunGives, Runs, StepGives}
 pub use Rattle.net_sim.specs.Story.{Asked, Crossed, IsStory, Moment, events_of, places, program}
 pub use Rattle.net_sim.specs.Timeline.{Happens, IsAddressed, IsTimeline, contacts_of, crossings_of, events_in, seen_box}
 pub use Rattle.net_sim.specs.Told.{host_in, kept_by, kept_in, notices_by, without_reports}
 pub use Rattle.net_sim.specs.Whole.{AreServed, Each, IsNamed, seat_in}
 pub use Rattle.net_sim.specs.Worked.{asker, crossings, eight, eight_zeros, elsewhere, four, giver, message, over, receiver, sender, stranger, taker}
 pub use Rattle.net_sim.specs.WorkedMoments.{eight_sent, rts, str}
-pub use Rattle.net_sim.specs.World.{Ask, AskGives, AtProgram, AtSeat, CalmGives, Calms, Carrier, Does, DoesOrHalts, EventGives, Halts, Net, NetEnds, Offer, OfferEnds, OfferGives, Program, Quiet, QuietEnds, Refuses, Repeats, RunGives, Runs, Seat, Server, ServiceSeat, StepGives, TakeEnds, TakeGives, TurnsOf, TypeGives, Typed, User, WorldFault, WorldState, all_emptied, all_turned, noticed, opening_seats, opening_services, opening_world, seat_of, seated, seats_turned, served_at, serviced, services_in, services_of, stops, tended, up_in, wants_memory, with_carrier, with_program, with_server, with_services, with_user, world_heard, world_moved}
+pub use Rattle.net_sim.specs.World.{Ask, AskGives, AtProgram, AtSeat, CalmGives, Calms, Carrier, Does, DoesOrHalts, EventGives, Halts, Net, NetEnds, Offer, OfferEnds, OfferGives, Program, Quiet, QuietEnds, Refuses, Repeats, Seat, Server, ServiceSeat, TurnGives, TakeEnds, TakeGives, TurnsOf, TypeGives, Typed, User, WorldFault, WorldState, all_emptied, all_turned, noticed, opening_seats, opening_services, opening_world, seat_of, seated, seats_turned, served_at, serviced, services_in, services_of, stops, tended, up_in, wants_memory, with_carrier, with_program, with_server, with_services, with_user, world_heard, world_moved}
 pub use Rattle.net_sim.specs.declared.auditing.said.Audit.{Audit}
 pub use Rattle.promise.specs.Formed.{CrossedAt}
 pub use Rattle.promise.specs.Safe.{AreTwo, IsGranted, Match, Name, SafeBook, SafeGrants, SafePartners, SafeStreams, Source, before, control_flow, last_out, own_request, partner_request, receives, sends}

@@ -8,9 +8,10 @@ pub use Rattle.net_sim.proofs.Resets.Bridge.{box_same, by_request, flow_of, plac
 pub use Rattle.net_sim.proofs.Resets.Clean.{cleared_waits, fetched_waits, waiting_out}
 pub use Rattle.net_sim.proofs.Resets.Coupled.{Coupled, coupled, up_host}
 pub use Rattle.net_sim.proofs.Resets.Offers.{data_away, plain_take, says_reply}
-pub use Rattle.net_sim.proofs.Books.EachEvent.{Answered, HasProgram, Shows, Ways, event_way, step_way, unshown}
-pub use Rattle.net_sim.proofs.Books.Refusals.{step_stands}
-pub use Rattle.net_sim.proofs.Books.Same.{calm_same, mixed_same, step_same}
+pub use Rattle.net_sim.proofs.Books.EachEvent.{Answered, HasProgram, Shows, Ways, event_way, turn_way, unshown}
+pub use Rattle.net_sim.proofs.Books.Refusals.{step_stands, turn_stands}
+pub use Rattle.net_sim.proofs.Books.Same.{calm_same, step_same, turn_same}
+pub use Rattle.net_sim.proofs.Books.Strangers.{alone, each_way}
 pub use Rattle.net_sim.proofs.Hosts.Calming.{memory_stops}
 pub use Rattle.net_sim.proofs.Hosts.Seats.{same_host-sym}
 pub use Rattle.net_sim.proofs.Hosts.Stays.{Stays, accepted_stays, offered_stays, served_stays}

@@ -16,7 +16,7 @@ use Rattle.net_sim.specs.Projection.{message_on}
 use Rattle.net_sim.specs.Reports.{AreReported}
 use Rattle.promise.specs.Safe.{last_out}
 use Rattle.net_sim.specs.Timeline.{events_in}
-use Rattle.net_sim.specs.Whole.{IsWhole}
+use Rattle.net_sim.specs.Whole.{IsWhole, IsWholeAmong}
 use Rattle.net_sim.specs.World.{WorldState}
 
 -- a host is through a reset with a peer, by contacts and crossings
@@ -54,4 +54,13 @@ pub record IsLawful {C : Type 0} (seen : C → Seen) (hosts : List Host) (w : Wo
   pub booked : IsBooked seen w
   pub run : IsRun hosts (seen w.carrier).log
   pub addresses : HaveAddresses hosts
+  pub reported : AreReported w
+
+-- the same of a world some of whose hosts are strangers
+pub record IsLawfulAmong {C : Type 0} (strange : Host → Bool) (seen : C → Seen) (hosts : List Host) (w : WorldState C) : Type 0 where
+  pub whole : IsWholeAmong strange seen hosts w
+  pub booked : IsBooked seen w
+  pub run : IsRun hosts (seen w.carrier).log
+  pub addresses : HaveAddresses hosts
+  pub strangers : (h : Host) → strange h ≡ true → is_host hosts h ≡ true
   pub reported : AreReported w

@@ -7,7 +7,7 @@ pub mod Endings
 pub mod Seats
 pub mod Parts
 pub mod Growing
-pub mod Mixed
+pub mod Held
 pub mod Notes
 pub mod Calm
 pub mod Undo

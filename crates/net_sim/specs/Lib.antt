@@ -4,6 +4,7 @@ pub mod Audit
 pub mod Findings
 pub mod Handed
 pub mod World
+pub mod Steps
 pub mod Carriers
 pub mod Silent
 pub mod Rest
@@ -18,9 +19,8 @@ pub mod WorkedResets
 pub mod Told
 pub mod Mixed
 pub mod Among
-pub mod MixedWorlds
 pub mod WorkedMoments
 pub mod SmallLogs
 pub mod WorkedReports
-pub mod WorkedMixed
+pub mod WorkedStrangers
 pub mod Laws

@@ -1,9 +1,11 @@
 -- What is kept of a world describes one list of moments.
-use Rattle.std.specs.Prelude.{◌≡◌, false, if◌then◌else◌, List, [], ◌∷◌, map, Some, None, All}
+use Rattle.std.specs.Prelude.{◌≡◌, Bool, false, if◌then◌else◌, List, [], ◌∷◌, map, Some, None, All}
 use Rattle.interface.specs.Calls.{Seen}
 use Rattle.interface.specs.Host.{Host, IsAddress}
 use Rattle.interface.specs.Mailboxes.{is_up}
 use Rattle.ncp_control.specs.Command.{IsWord}
+use Rattle.net_sim.specs.Mixed.{AreMixed, mixed_kept}
+use Rattle.net_sim.specs.Steps.{with_programs}
 use Rattle.net_sim.specs.Story.{Moment, program}
 use Rattle.net_sim.specs.Timeline.{IsAddressed, IsAsked, IsTimeline, crossings_of, contacts_of}
 use Rattle.net_sim.specs.Told.{kept_in, without_reports}
@@ -30,6 +32,18 @@ pub record IsWhole {C : Type 0} (seen : C → Seen) (hosts : List Host) (w : Wor
   pub kept : without_reports w.kept ≡ kept_in moments
   pub seats : w.stopped ≡ false → w.seats ≡ map (seat_in hosts moments) hosts
   pub services : w.stopped ≡ false → AreServed hosts w.services
+
+-- the same where strangers do what they like: it describes one list of mixed moments, and until memory runs out each host with a program that
+-- is up has the program that comes of them
+pub record IsWholeAmong {C : Type 0} (strange : Host → Bool) (seen : C → Seen) (hosts : List Host) (w : WorldState C) : Type 0 where
+  pub moments : List Moment
+  pub mixed : AreMixed strange hosts moments
+  pub network : (seen w.carrier).hosts ≡ hosts
+  pub crossings : w.kept.book.crossings ≡ crossings_of moments
+  pub contacts : w.kept.book.contacts ≡ contacts_of moments
+  pub kept : without_reports w.kept ≡ mixed_kept strange moments
+  pub seats : w.stopped ≡ false → w.seats ≡ map (seat_in hosts moments) (with_programs strange hosts)
+  pub services : w.stopped ≡ false → AreServed (with_programs strange hosts) w.services
 
 -- what a user asks for names its peer by an address, and has numbers of their types
 abbrev pub IsNamed : Event → Type 0

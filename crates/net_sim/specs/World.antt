@@ -270,6 +270,7 @@ abbrev pub AtSeat : {C : Type 0} → (NcpState → Type 0) → Option Seat → W
 AtSeat Gives None old r new = Refuses (Carrier fault.NoSuch) old r new
 AtSeat Gives (Some seat) old r new = AtProgram Gives seat.program old r new
 
+-- at a host with a program, or in the network
 abbrev pub EventGives : {C : Type 0} → Calls C → WorldState C → Event → Result (Unit {0}) WorldFault → WorldState C → Type 0
 EventGives {C} calls old (Net e) r new = (answer : Result (Unit {0}) CarrierFault) × (c : C) × calls.steps old.carrier e answer c × NetEnds (calls.seen old.carrier) e answer c old r new
 EventGives {C} calls old Quiet r new = (answer : Result (Unit {0}) CarrierFault) × (c : C) × calls.rounds old.carrier answer c × QuietEnds answer c old r new
@@ -281,31 +282,23 @@ EventGives calls old (User h peer listen own) r new = AtSeat (λ s. DoesOrHalts 
 EventGives calls old (Typed h line) r new = AtSeat (λ s. TypeGives h line s (services_of h old.services).typing old r new) (seat_of h old.seats) old r new
 EventGives calls old (Out m) r new = Refuses (unsaid m old.seats) old r new
 
--- after memory has run out every event is refused as `Stopped`
-abbrev pub StepGives : {C : Type 0} → Calls C → WorldState C → Event → Result (Unit {0}) WorldFault → WorldState C → Type 0
-StepGives calls old e r new = MatchBool old.stopped (Refuses (Carrier fault.Stopped) old r new) (EventGives calls old e r new)
+-- an event as those of a calm are, in which strangers have no turn: at one it is refused, as at a host that isn't there. After memory has
+-- run out every event is refused as `Stopped`
+abbrev pub TurnGives : {C : Type 0} → Calls C → WorldState C → Event → Result (Unit {0}) WorldFault → WorldState C → Type 0
+TurnGives calls old e r new = MatchBool old.stopped (Refuses (Carrier fault.Stopped) old r new) (EventGives calls old e r new)
 
--- ---- several events
+-- ---- a calm
 
 abbrev pub stops : Result (Unit {0}) WorldFault → Bool
 stops (Ok done) = false
 stops (Err (Carrier f)) = is_memory f || is_halt f
 stops (Err f) = wants_memory f
 
--- one event after the other: it continues after a refusal, and ends when memory runs out
-abbrev pub Runs : {C : Type 0} → Calls C → WorldState C → List Event → Result (Unit {0}) WorldFault → WorldState C → Type 0
-Runs calls old [] r new = Does old r new
-Runs {C} calls old (e ∷ events) r new =
-    (answer : Result (Unit {0}) WorldFault) × (mid : WorldState C) × StepGives calls old e answer mid × MatchBool (stops answer) ((r ≡ answer) × (new ≡ mid)) (Runs calls mid events r new)
-
-abbrev pub RunGives : {C : Type 0} → Calls C → WorldState C → List Event → Result (Unit {0}) WorldFault → WorldState C → Type 0
-RunGives calls old events r new = MatchBool old.stopped (Refuses (Carrier fault.Stopped) old r new) (Runs calls old events r new)
-
 -- an event again and again, at most this many times, until nothing crosses by it
 abbrev pub Repeats : {C : Type 0} → Calls C → Event → ℕ → WorldState C → Result (Unit {0}) WorldFault → WorldState C → Type 0
 Repeats calls e zero old r new = Does old r new
 Repeats {C} calls e (suc times) old r new =
-    (answer : Result (Unit {0}) WorldFault) × (mid : WorldState C) × StepGives calls old e answer mid
+    (answer : Result (Unit {0}) WorldFault) × (mid : WorldState C) × TurnGives calls old e answer mid
     × MatchBool (stops answer) ((r ≡ answer) × (new ≡ mid))
     (MatchBool (nat_lt (length old.kept.book.crossings) (length mid.kept.book.crossings)) (Repeats calls e times mid r new) (Does mid r new))
 
@@ -326,7 +319,7 @@ up_in seats = map (λ s. s.host) (filter (λ s. is_some s.program) seats)
 abbrev pub Calms : {C : Type 0} → Calls C → ℕ → WorldState C → Result (Unit {0}) WorldFault → WorldState C → Type 0
 Calms calls zero old r new = Does old r new
 Calms {C} calls (suc times) old r new =
-    (first : Result (Unit {0}) WorldFault) × (quiet : WorldState C) × StepGives calls old Quiet first quiet
+    (first : Result (Unit {0}) WorldFault) × (quiet : WorldState C) × TurnGives calls old Quiet first quiet
     × MatchBool (stops first) ((r ≡ first) × (new ≡ quiet))
     ((second : Result (Unit {0}) WorldFault) × (turned : WorldState C) × TurnsOf calls (up_in quiet.seats) quiet second turned
     × MatchBool (stops second) ((r ≡ second) × (new ≡ turned)) (Calms calls times turned r new))

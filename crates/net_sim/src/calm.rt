@@ -99,9 +99,9 @@ impl<C: Carrier> MixedWorld<C> {
         Ok(())
     }
 
-    /// Returns whether more rounds of a calm are known to change nothing: the network is known to rest, so nothing
-    /// waits in it, for a stranger neither; and each host that has a program and is up has nothing to say, or is known
-    /// to be refused what it has to say.
+    /// Returns whether more rounds of a calm are known to change nothing: the network is known to rest, but for what
+    /// waits for strangers, which take nothing in a calm; and each host that has a program and is up has nothing to
+    /// say, or is known to be refused what it has to say.
     pub fn rests(&self) -> bool
         ensures rest { result ≡ true → IsAtRest (shown C.calls) self.now }
         ensures unchanged { result ≡ true → (n : ℕ) → CalmGives (shown C.calls) n self.now (Ok tt) self.now }
@@ -118,7 +118,7 @@ impl<C: Carrier> MixedWorld<C> {
     }
 
     /// Returns whether another round is known to change nothing: nothing has crossed since the book had this many
-    /// crossings, the network is known to rest, and no host has a message that it might take.
+    /// crossings, the network is known to rest beside the strangers, and no host has a message that it might take.
     fn has_calmed(&self, before: usize) -> bool
         ensures { result ≡ true → IsAtRest (shown C.calls) self.now }
     {
@@ -128,9 +128,11 @@ impl<C: Carrier> MixedWorld<C> {
         if self.is_stopped() {
             return false;
         }
-        if !self.carrier().rests() {
+        if !self.carrier().rests_beside(self.strangers()) {
             return false;
         }
+        // for the proof only: the world is lawful, so that no stranger has a seat
+        let _book = self.book();
         self.all_offer_nothing()
     }
 

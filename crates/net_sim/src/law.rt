@@ -22,7 +22,7 @@ ghost use Rattle.sockets.specs.Peers.{AreInOrder};
 ghost use Rattle.sockets.specs.Requests.{served};
 ghost use Rattle.sockets.specs.Sending.{offered};
 ghost use Rattle.sockets.specs.declared.request.Request.{Request};
-ghost use Rattle.net_sim.specs.Laws.Worlds.{Books, CleanResets, CleanTakings, LawfulWorlds, MixedWorlds, Resets, Worlds};
+ghost use Rattle.net_sim.specs.Laws.Worlds.{Books, CleanResets, CleanTakings, LawfulWorlds, Resets, Worlds, WorldsAmong};
 
 use interface::Carrier;
 
@@ -67,7 +67,7 @@ pub fn mailboxes()
     ensures needs { (hosts : List Host) (c : Crossing) (moments : List Moment) → Needs hosts c (crossings_of moments) → runs.Needs hosts (event_of c) (events_of moments) }
 {}
 
-/// The book of a world describes one list of moments, the crossings and what users asked for and weren't refused, whatever the carrier is
+/// The book of a world without strangers describes one list of moments, the crossings and what users asked for and weren't refused, whatever the carrier is
 /// made of. All that is kept, except for what services report, is theirs, and until memory runs out each host has the program that
 /// comes of them.
 pub fn worlds<C: Carrier>()
@@ -86,13 +86,13 @@ pub fn clean_takings<C: Carrier>()
     ensures { CleanTakings C.calls }
 {}
 
-/// The worlds of which that is said: those that began over a carrier whose log is empty, between hosts with addresses, however
+/// The worlds without strangers of which that is said: those that began over a carrier whose log is empty, between hosts with addresses, however
 /// they continued.
 pub fn lawful_worlds<C: Carrier>()
     ensures { LawfulWorlds C.calls }
 {}
 
-/// The same of worlds with strangers: whatever these send and take, all that is kept of the hosts with programs is what their programs say.
-pub fn mixed_worlds<C: Carrier>()
-    ensures { MixedWorlds C.calls }
+/// The same of all worlds: whatever strangers send and take, all that is kept of the hosts with programs is what their programs say.
+pub fn worlds_among<C: Carrier>()
+    ensures { WorldsAmong C.calls }
 {}

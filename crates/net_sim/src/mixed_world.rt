@@ -1,23 +1,22 @@
-//! Hosts over a carrier, some of which are strangers.
+//! Hosts over a carrier, some of which may be strangers.
 
 ghost use Rattle.std.specs.Prelude.{◌≡◌, false, [], IfOk, length};
 ghost use Rattle.net_sim.specs.Carriers.{shown};
+ghost use Rattle.net_sim.specs.Clean.{IsLawful, IsLawfulAmong};
 ghost use Rattle.net_sim.specs.Handed.{AreUnhanded};
-ghost use Rattle.net_sim.specs.Inside.Mixed.{IsHeldAmong, mixed_of};
+ghost use Rattle.net_sim.specs.Inside.Held.{IsHeld, among_of};
 ghost use Rattle.net_sim.specs.Inside.Parts as parts;
 ghost use Rattle.net_sim.specs.Inside.Parts.{AreLive, IsOnce, hosts_of, world_after, world_of};
-ghost use Rattle.net_sim.specs.MixedWorlds.{IsLawfulAmong, MixedRunGives, MixedStepGives};
-ghost use Rattle.net_sim.specs.MixedWorlds.{OpensMixed, opening_mixed, strange_in};
+ghost use Rattle.net_sim.specs.Steps.{OpensAmong, RunGives, StepGives, opening_mixed, strange_in};
 ghost use Rattle.net_sim.specs.World as world;
-ghost use Rattle.net_sim.specs.World.{EventGives, StepGives};
+ghost use Rattle.net_sim.specs.World.{EventGives, TurnGives};
 ghost use Rattle.promise.specs.Fates.{AreFated};
 
 use crate::book::Book;
 use crate::events::{follow, is_named, offer, take};
-use crate::mixed::StrangersFault;
 use crate::parts::Hosts;
 use crate::seat::{Seat, ServiceSeat};
-use crate::strangers::{absent_in, follow_mixed, programs_of, strangers_of};
+use crate::strangers::{StrangersFault, absent_in, follow_among, programs_of, strangers_of};
 use crate::world::are_addresses;
 use crate::{Event, WorldFault};
 use interface::{Carrier, CarrierFault, HostAddr};
@@ -26,12 +25,13 @@ use sockets::NcpFault;
 use std::alloc::{AllocError, Global};
 use std::marker::Model;
 
-/// A carrier some of whose hosts are strangers, that run anything; the programs of the others, what else runs on them, and the book of
-/// all that happens to these.
+/// A carrier, those of its hosts that are strangers, which run anything, the programs of the others, what else runs on
+/// them, and the book of all that happens to these.
 ///
-/// It is seen as a world, in which only hosts with programs have a seat and services. A stranger says what it likes to
-/// whom it likes, in its own name, and takes when it likes. An event that is refused changes nothing, and after memory has run out
-/// every event is refused as `Stopped`, as in a [`World`](crate::World).
+/// A world is seen as its carrier, its strangers, a seat and the services of each other host in the carrier's order, the
+/// book with what was handed over, and whether running out of memory has stopped it. A stranger says what it likes to
+/// whom it likes, in its own name, and takes when it likes. An event that is refused changes nothing. One in which memory
+/// runs out leaves the book as it was, and after it every event is refused as `Stopped`.
 #[derive(Drop)]
 pub struct MixedWorld<C: Carrier> {
     carrier: C,
@@ -41,19 +41,20 @@ pub struct MixedWorld<C: Carrier> {
 }
 
 impl<C: Carrier> Model for MixedWorld<C> {
-    ghost use Rattle.net_sim.specs.Inside.Mixed.{IsHeldAmong, mixed_of_hosts};
+    ghost use Rattle.net_sim.specs.Inside.Held.{IsHeld, of_hosts};
     ghost use Rattle.net_sim.specs.World.{WorldState};
 
     ghost Value = { WorldState C };
 
-    ghost view = { λ w. mixed_of_hosts w.carrier w.hosts w.strangers.items w.stopped };
+    ghost view = { λ w. of_hosts w.carrier w.hosts w.strangers.items w.stopped };
 
-    ghost invariant = { λ w. IsHeldAmong C.calls.seen (mixed_of_hosts w.carrier w.hosts w.strangers.items w.stopped) };
+    ghost invariant = { λ w. IsHeld C.calls.seen (of_hosts w.carrier w.hosts w.strangers.items w.stopped) };
 }
 
 impl<C: Carrier> MixedWorld<C> {
-    /// Returns a world over a carrier whose log is empty and that hasn't stopped, with an empty book. Of the carrier's hosts those that are
-    /// named here are strangers, and the others have programs that have just come up. A host may be named twice, and in any order.
+    /// Returns a world over a carrier whose log is empty and that hasn't stopped, with an empty book. Of the carrier's
+    /// hosts those that are named here are strangers, and the others have programs that have just come up. A host may be
+    /// named twice, and in any order.
     ///
     /// Errors: `NoSuch`, with the first host that is named and isn't in the network, and after that `OutOfMemory`.
     pub fn new(
@@ -63,7 +64,7 @@ impl<C: Carrier> MixedWorld<C> {
     ) -> Result<MixedWorld<C>, StrangersFault>
         requires unused { (C.calls.seen carrier).log ≡ [] }
         requires running { (C.calls.seen carrier).stopped ≡ false }
-        ensures { OpensMixed (shown C.calls) carrier named.now result }
+        ensures { OpensAmong (shown C.calls) carrier named.now result }
     {
         if let Some(host) = absent_in(carrier.hosts(), named) {
             return Err(StrangersFault::NoSuch(host));
@@ -89,8 +90,8 @@ impl<C: Carrier> MixedWorld<C> {
 
     /// Returns a world of these parts, in which memory has lasted.
     pub(crate) fn of_parts(carrier: C, hosts: Hosts, strangers: Vec<HostAddr>) -> MixedWorld<C>
-        requires { IsHeldAmong C.calls.seen (mixed_of carrier hosts strangers.items) }
-        ensures { result ≡ mixed_of carrier hosts strangers.items }
+        requires { IsHeld C.calls.seen (among_of carrier hosts strangers.items) }
+        ensures { result ≡ among_of carrier hosts strangers.items }
     {
         MixedWorld {
             carrier,
@@ -100,11 +101,14 @@ impl<C: Carrier> MixedWorld<C> {
         }
     }
 
-    /// Returns what happened so far. It is that of a lawful world with strangers, of which the laws of `mixed_worlds` speak: what is
-    /// promised where every host runs the program is promised between any two that do, whatever strangers send.
+    /// Returns what happened so far. It is that of a lawful world, of which the laws speak: what is promised where every
+    /// host runs the program is promised between any two that do, whatever strangers send. By `law::clean_resets` a host
+    /// that is through a reset with a peer takes of it, RST and RRP aside, only what went out after its last clean point.
+    /// And by `law::books` a message that was answered by RFNM was taken exactly once, and none was taken twice.
     pub fn book(&self) -> Book<'_>
         ensures value { result ≡ self.now.kept }
         ensures lawful { IsLawfulAmong (strange_in self.now) C.calls.seen (C.calls.seen self.now.carrier).hosts self.now }
+        ensures alone { self.now.strangers ≡ [] → IsLawful C.calls.seen (C.calls.seen self.now.carrier).hosts self.now }
     {
         self.hosts.book(self.carrier.log())
     }
@@ -171,16 +175,21 @@ impl<C: Carrier> MixedWorld<C> {
 
     /// Lets one event happen, or refuses it.
     ///
-    /// Errors: those of [`World::step`](crate::World::step), and before them `NoProgram` for what a stranger's user or program would be
-    /// asked for, and `HasProgram` where another than a stranger is to send a message that its program doesn't say.
+    /// Errors: `NoProgram` for what a stranger's user or program would be asked for, and `HasProgram` where another host
+    /// than a stranger is to send a message that its program doesn't say, whether or not it is up. Else `Carrier(NoSuch)`
+    /// for an event at a host that the network doesn't have and `Carrier(IsDown)` at one that is down, before anything
+    /// else; what the carrier refuses; what the host's program refuses, as `Program`, and so `NotOpen` for a line where no
+    /// terminal came. What a server or a user asks for is never refused here: that is reported. Memory can run out only in
+    /// the carrier, at an offer of something, at a taking of something, at an event by which something crosses, at a
+    /// request or a line that isn't refused, and where a server or a user begins.
     pub fn step(&mut self, event: Event) -> Result<(), WorldFault>
-        ensures { MixedStepGives (shown C.calls) self.old event result self.new }
+        ensures { StepGives (shown C.calls) self.old event result self.new }
     {
         if self.stopped {
             return Err(WorldFault::Carrier(CarrierFault::Stopped));
         }
         is_named(&event);
-        let done = follow_mixed(&mut self.carrier, &mut self.hosts, &self.strangers, event);
+        let done = follow_among(&mut self.carrier, &mut self.hosts, &self.strangers, event);
         // for the proof only, as in `turn_near`
         let _ = self.carrier.log();
         self.stopped = runs_out(&done);
@@ -190,9 +199,9 @@ impl<C: Carrier> MixedWorld<C> {
     /// Lets one event happen as those of a calm do, in which no stranger has a turn: at a stranger it is refused, as at a host
     /// that the network doesn't have, and what waits for it stays.
     ///
-    /// Errors: those of [`World::step`](crate::World::step).
+    /// Errors: those of [`MixedWorld::step`].
     pub fn turn(&mut self, event: &Event) -> Result<(), WorldFault>
-        ensures gives { StepGives (shown C.calls) self.old event.now result self.new }
+        ensures gives { TurnGives (shown C.calls) self.old event.now result self.new }
         ensures strangers { self.new.strangers ≡ self.old.strangers }
     {
         self.turn_near(None, event)
@@ -205,7 +214,7 @@ impl<C: Carrier> MixedWorld<C> {
         likely: Option<usize>,
         event: &Event,
     ) -> Result<(), WorldFault>
-        ensures { StepGives (shown C.calls) self.old event.now result self.new }
+        ensures { TurnGives (shown C.calls) self.old event.now result self.new }
     {
         is_named(event);
         if self.stopped {
@@ -220,7 +229,7 @@ impl<C: Carrier> MixedWorld<C> {
 
     /// Lets one event happen after the other. It continues after a refusal, and ends when memory runs out.
     pub fn run(&mut self, events: Vec<Event>) -> Result<(), WorldFault>
-        ensures { MixedRunGives (shown C.calls) self.old events.items result self.new }
+        ensures { RunGives (shown C.calls) self.old events.items result self.new }
     {
         if self.stopped {
             return Err(WorldFault::Carrier(CarrierFault::Stopped));

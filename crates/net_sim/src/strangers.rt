@@ -1,13 +1,13 @@
-//! What strangers do, and what is asked of them.
+//! What strangers do, what is asked of them, and why there is no world with strangers.
 
 ghost use Rattle.std.specs.Prelude.{◌≡◌, filter, IfOk};
 ghost use Rattle.interface.specs.Host.{is_host};
 ghost use Rattle.net_sim.specs.Carriers.{shown};
-ghost use Rattle.net_sim.specs.Inside.Mixed.{mixed_after, mixed_of};
+ghost use Rattle.net_sim.specs.Inside.Held.{among_after, among_of};
 ghost use Rattle.net_sim.specs.Inside.Parts.{AreLive, world_after, world_of};
-ghost use Rattle.net_sim.specs.MixedWorlds as mixed;
+ghost use Rattle.net_sim.specs.Steps as steps;
 ghost use Rattle.net_sim.specs.World.{Out, Take};
-ghost use Rattle.net_sim.specs.MixedWorlds.{AskedGives, FetchGives, AmongGives, OutGives, with_programs};
+ghost use Rattle.net_sim.specs.Steps.{AskedGives, FetchGives, AmongGives, OutGives, with_programs};
 
 use crate::events::{self, follow, refuse};
 use crate::hosting::likely_place;
@@ -15,6 +15,18 @@ use crate::parts::Hosts;
 use crate::{Event, WorldFault};
 use interface::{Carrier, HostAddr, HostMessage};
 use std::alloc::{AllocError, Global};
+use thiserror::Error;
+
+/// Why there is no world with these strangers.
+#[derive(Clone, Copy, Debug, Drop, PartialEq, Eq, Error)]
+pub enum StrangersFault {
+    /// This host is named as a stranger, and isn't in the network: the first such host.
+    #[error("NoSuch")]
+    NoSuch(HostAddr),
+    /// No memory was left for the hosts.
+    #[error("OutOfMemory")]
+    OutOfMemory,
+}
 
 /// Returns whether a host is one of these.
 fn is_among(hosts: &[HostAddr], host: HostAddr) -> bool
@@ -25,7 +37,7 @@ fn is_among(hosts: &[HostAddr], host: HostAddr) -> bool
 
 /// Returns the first of the named hosts that isn't in the network.
 pub(crate) fn absent_in(hosts: &[HostAddr], named: &[HostAddr]) -> Option<HostAddr>
-    ensures { result ≡ mixed.absent_in hosts.now named.now }
+    ensures { result ≡ steps.absent_in hosts.now named.now }
 {
     named.iter().copied().find(|host| !is_among(hosts, *host))
 }
@@ -73,7 +85,7 @@ fn source_of(message: &HostMessage) -> HostAddr
 
 /// Returns the host at which something is asked for.
 fn asked_at(event: &Event) -> Option<HostAddr>
-    ensures { result ≡ mixed.asked_at event.now }
+    ensures { result ≡ steps.asked_at event.now }
 {
     match event {
         Event::Net(_) | Event::Quiet | Event::Take(_) | Event::Out(_) => None,
@@ -87,7 +99,7 @@ fn asked_at(event: &Event) -> Option<HostAddr>
 
 /// Returns whether a stranger is asked for something.
 fn asks_stranger(strangers: &[HostAddr], event: &Event) -> bool
-    ensures { result ≡ mixed.is_strange (λ h. is_host strangers.now h) (mixed.asked_at event.now) }
+    ensures { result ≡ steps.is_strange (λ h. is_host strangers.now h) (steps.asked_at event.now) }
 {
     match asked_at(event) {
         Some(host) => is_among(strangers, host),
@@ -129,7 +141,7 @@ fn say<C: Carrier>(
     strangers: &[HostAddr],
     message: HostMessage,
 ) -> Result<(), WorldFault>
-    ensures { AmongGives (shown C.calls) (mixed_of carrier.old hosts.old strangers.now) (Out message) result (mixed_after carrier.new hosts.new strangers.now result) }
+    ensures { AmongGives (shown C.calls) (among_of carrier.old hosts.old strangers.now) (Out message) result (among_after carrier.new hosts.new strangers.now result) }
 {
     let source = source_of(&message);
     if is_among(strangers, source) {
@@ -146,7 +158,7 @@ fn take<C: Carrier>(
     host: HostAddr,
 ) -> Result<(), WorldFault>
     requires live { AreLive hosts.old.seats }
-    ensures { AmongGives (shown C.calls) (mixed_of carrier.old hosts.old strangers.now) (Take host) result (mixed_after carrier.new hosts.new strangers.now result) }
+    ensures { AmongGives (shown C.calls) (among_of carrier.old hosts.old strangers.now) (Take host) result (among_after carrier.new hosts.new strangers.now result) }
 {
     if is_among(strangers, host) {
         return fetch(carrier, hosts, host);
@@ -163,7 +175,7 @@ fn ask<C: Carrier>(
     event: &Event,
 ) -> Result<(), WorldFault>
     requires live { AreLive hosts.old.seats }
-    ensures { AskedGives (shown C.calls) (mixed_of carrier.old hosts.old strangers.now) event.now result (mixed_after carrier.new hosts.new strangers.now result) }
+    ensures { AskedGives (shown C.calls) (among_of carrier.old hosts.old strangers.now) event.now result (among_after carrier.new hosts.new strangers.now result) }
 {
     if asks_stranger(strangers, event) {
         // for the proof only: the carrier is asked nothing here, and `log` says what it shows, which stays the same
@@ -174,14 +186,14 @@ fn ask<C: Carrier>(
 }
 
 /// Lets any event happen. A stranger takes what came for it and sends what it likes, and is asked for nothing.
-pub(crate) fn follow_mixed<C: Carrier>(
+pub(crate) fn follow_among<C: Carrier>(
     carrier: &mut C,
     hosts: &mut Hosts,
     strangers: &[HostAddr],
     event: Event,
 ) -> Result<(), WorldFault>
     requires live { AreLive hosts.old.seats }
-    ensures { AmongGives (shown C.calls) (mixed_of carrier.old hosts.old strangers.now) event result (mixed_after carrier.new hosts.new strangers.now result) }
+    ensures { AmongGives (shown C.calls) (among_of carrier.old hosts.old strangers.now) event result (among_after carrier.new hosts.new strangers.now result) }
 {
     match event {
         Event::Out(message) => say(carrier, hosts, strangers, message),

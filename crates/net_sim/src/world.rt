@@ -8,15 +8,16 @@ ghost use Rattle.net_sim.specs.Handed.{AreUnhanded};
 ghost use Rattle.net_sim.specs.Inside.Parts.{IsOnce, hosts_of};
 ghost use Rattle.net_sim.specs.Rest.{IsAtRest};
 ghost use Rattle.net_sim.specs.Silent.{AllSilent};
-ghost use Rattle.net_sim.specs.World.{CalmGives, opening_world, StepGives, RunGives};
+ghost use Rattle.net_sim.specs.Steps.{RunGives, StepGives};
+ghost use Rattle.net_sim.specs.World.{CalmGives, TurnGives, opening_world};
 ghost use Rattle.promise.specs.Fates.{AreFated};
 
 use crate::book::Book;
-use crate::mixed_world::{MixedWorld, stops};
+use crate::mixed_world::MixedWorld;
 use crate::parts::Hosts;
 use crate::seat::{Seat, ServiceSeat};
 use crate::{Event, WorldFault};
-use interface::{Carrier, CarrierFault, HostAddr};
+use interface::{Carrier, HostAddr};
 use promise::{BitLog, Fate};
 use std::alloc::{AllocError, Global};
 use std::marker::Model;
@@ -75,7 +76,7 @@ impl<C: Carrier> World<C> {
         ensures value { result.now ≡ self.now.kept.handed }
         ensures empty { AreUnhanded self.now.kept.book.lives self.now.kept.handed }
     {
-        self.book().handed()
+        self.core.handed()
     }
 
     /// Returns how far each life is, and how those ended that are over, in the order in which the book has the lives.
@@ -83,7 +84,7 @@ impl<C: Carrier> World<C> {
         ensures value { result.now ≡ self.now.kept.fates }
         ensures fated { AreFated self.now.kept.book.lives self.now.kept.fates }
     {
-        self.book().fates()
+        self.core.fates()
     }
 
     /// Returns the carrier.
@@ -128,23 +129,23 @@ impl<C: Carrier> World<C> {
     pub fn step(&mut self, event: Event) -> Result<(), WorldFault>
         ensures { StepGives (shown C.calls) self.old event result self.new }
     {
-        self.follow(&event)
+        self.core.step(event)
+    }
+
+    /// Lets one event happen as those of a calm do.
+    ///
+    /// Errors: those of [`World::step`].
+    pub fn turn(&mut self, event: &Event) -> Result<(), WorldFault>
+        ensures { TurnGives (shown C.calls) self.old event.now result self.new }
+    {
+        self.core.turn(event)
     }
 
     /// Lets one event happen after the other. It continues after a refusal, and ends when memory runs out.
-    pub fn run(&mut self, events: &[Event]) -> Result<(), WorldFault>
-        ensures { RunGives (shown C.calls) self.old events.now result self.new }
+    pub fn run(&mut self, events: Vec<Event>) -> Result<(), WorldFault>
+        ensures { RunGives (shown C.calls) self.old events.items result self.new }
     {
-        if self.core.is_stopped() {
-            return Err(WorldFault::Carrier(CarrierFault::Stopped));
-        }
-        for event in events {
-            let done = self.follow(event);
-            if stops(&done) {
-                return done;
-            }
-        }
-        Ok(())
+        self.core.run(events)
     }
 
     /// Passes `rounds` times: a quiet round of the network, and then each host that is up has its turn, in order of IMP
@@ -174,13 +175,6 @@ impl<C: Carrier> World<C> {
         ensures { result ≡ true → AllSilent self.now.seats }
     {
         self.core.is_silent()
-    }
-
-    /// Lets one event happen, or refuses it.
-    fn follow(&mut self, event: &Event) -> Result<(), WorldFault>
-        ensures { StepGives (shown C.calls) self.old event.now result self.new }
-    {
-        self.core.turn(event)
     }
 }
 

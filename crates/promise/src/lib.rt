@@ -7,9 +7,10 @@
 //! 2. What is promised: the fields of `KeepsPromise` in `specs/Promise.antt` of `headline`. Of them `specs/Fates.antt`
 //!    says what a life has that its partner's CLS ended, by the lives' [`Fate`]s; `specs/Arrived.antt`, what an open
 //!    life has and RFNM of data means; `specs/Ends.antt`, by what a life is over and what goes out after a contact; and
-//!    three files of `world_keeps_streams`: `specs/Within.antt`, that a life counts nothing that crossed after it was
-//!    over, `specs/Sent.antt`, which message of its partner each is that it counts, and `specs/Granted.antt`, what the
-//!    ALLs of its partner grant it.
+//!    four files of `world_keeps_streams`: `specs/Within.antt`, that a life counts nothing that crossed after it was
+//!    over, `specs/Sent.antt`, which message of its partner each is that it counts, `specs/Between.antt`, that each
+//!    message of data has two lives, and `specs/Granted.antt`, what the ALLs of its partner grant it. That the book has
+//!    what crossed is said beside `KeepsPromise`, and `specs/Carriers.antt` of `net_sim` has what crosses in one event.
 //! 3. What is written down of a world: `specs/Book.antt`, with [`Life`], [`Told`] and [`Called`].
 //! 4. The other fields: a safe book (`specs/Safe.antt`), the messages that a life is made of (`specs/Formed.antt`)
 //!    and that a notice reports (`specs/Notices.antt`), and the sockets that an initial connection pairs

@@ -4,7 +4,7 @@ use Rattle.std.proofs.Common.{◌≡◌, ℕ, zero, suc, Bool, true, false, ◌|
 use Rattle.std.proofs.lemmas.Bool.{false≢true}
 use Rattle.std.proofs.lemmas.List.{append_assoc, append-nil, drop_all, drop_more, reverse-append}
 use Rattle.interface.specs.Calls.{Calls, Seen, is_halt, is_memory}
-use Rattle.interface.specs.Rest.{BringsNothing, Rests, TakesNothing}
+use Rattle.interface.specs.Rest.{BringsNothing, RestsBeside, TakesNothing}
 use Rattle.interface.specs.declared.CarrierFault.{CarrierFault}
 use Rattle.interface.specs.declared.Inbound.{Inbound}
 use Rattle.replay.specs.Replay.{AllTake, GoesOn, Halts, Onward, Round, Rounds, Takings, calmly}
@@ -193,13 +193,13 @@ hosts_rest : {C : Type 0} (calls : Calls C) (hosts : List Host) (c : C) → ((h 
 hosts_rest calls [] c none = (refl, refl)
 hosts_rest calls (h ∷ hosts) c none = (Ok tt, c, host_rests calls h c (none h), hosts_rest calls hosts c none)
 
-rounds_rest : {C : Type 0} (calls : Calls C) (times : ℕ) (c : C) → Rests calls.rounds calls.takes c → Rounds calls times c (Ok tt) c
+rounds_rest : {C : Type 0} (calls : Calls C) (times : ℕ) (c : C) → RestsBeside calls.rounds calls.takes [] c → Rounds calls times c (Ok tt) c
 rounds_rest calls zero c rest = (refl, refl)
 rounds_rest calls (suc times) c rest =
-    (Ok tt, c, (Ok tt, c, (Ok tt, rest.round, refl), hosts_rest calls (calls.seen c).hosts c rest.takings), rounds_rest calls times c rest)
+    (Ok tt, c, (Ok tt, c, (Ok tt, rest.round, refl), hosts_rest calls (calls.seen c).hosts c (λ h. rest.takings h refl)), rounds_rest calls times c rest)
 
 -- the rounds that are left would change nothing, and show nothing
-pub rest_passed : {C : Type 0} (calls : Calls C) (detail : Detail) (first now : C) (times i : ℕ) (a b : Option (List ℕ)) → Passed calls detail first times i now a b → Rests calls.rounds calls.takes now
+pub rest_passed : {C : Type 0} (calls : Calls C) (detail : Detail) (first now : C) (times i : ℕ) (a b : Option (List ℕ)) → Passed calls detail first times i now a b → RestsBeside calls.rounds calls.takes [] now
     → EventEnds calls detail first (event.Calm times) (Ok tt) now a b
 rest_passed calls detail first now times i a b before rest =
     let few = before.few in

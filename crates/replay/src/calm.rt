@@ -46,7 +46,7 @@ pub(crate) fn replay_calm<C: Carrier, W: Output>(
     ensures failed { TellsCannotWrite result (W.failed writer.new) }
 {
     for _ in 0..rounds {
-        if carrier.rests() {
+        if carrier.rests_beside(&[]) {
             return Ok(());
         }
         let booked = carrier.log().len();

@@ -1,14 +1,16 @@
 -- Distances and next lines of a table.
-use Rattle.std.proofs.Common.{◌≡◌, ℕ, ◌+◌, ◌-◌, ◌<◌, ◌≤◌, ◌==◌, Bool, true, false, List, length, get_or, min, Option, Some, None, IsSome, refl, ◌∙◌, ap, sym, arith, inl, inr, eqb, nat_lt, subst, map, if◌then◌else◌}
+use Rattle.std.proofs.Common.{◌≡◌, ℕ, ◌+◌, ◌-◌, ◌<◌, ◌≤◌, ◌==◌, Bool, true, false, List, length, get_or, min, Option, Some, None, IsSome, refl, ◌∙◌, ap, sym, arith, inl, inr, eqb, nat_lt, subst, map, if◌then◌else◌, replicate}
 use Rattle.std.specs.Prelude.{◌⊎◌}
 use Rattle.std.specs.List.{position_or_len, range_with_len}
 use Rattle.std.proofs.lemmas.Bool.{cases_lt, eq-eqb, eqb-true, eqb-false}
 use Rattle.std.proofs.lemmas.Bool.Decides.{nat_tests}
 use Rattle.std.proofs.lemmas.List.Sums.{fails_before_first, passes_at_first}
+use Rattle.std.proofs.lemmas.List.Elements.{All-replicate}
+use Rattle.std.proofs.lemmas.List.{get_or-replicate, length-replicate}
 use Rattle.std.proofs.lemmas.List.FromFn.{length-map-range_with_len, get_or-map-range_with_len}
 use Rattle.interface.specs.Host.{most_imps}
 use Rattle.routing.specs.Vector.{infinite, IsVector}
-use Rattle.routing.specs.RouteTable.{Table, heard_distance, least_heard, distance_in, distance_to, vector_of, next_of, IsNext}
+use Rattle.routing.specs.RouteTable.{Table, heard_distance, least_heard, distance_in, distance_to, distances_of, nearest, vector_of, claiming, next_of, IsNext}
 use Rattle.routing.specs.Inside.{IsKept}
 use Rattle.routing.proofs.Tables.{least_heard-least, least_heard-attained, IsHeardOn, least_heard-none, distance_past}
 
@@ -138,38 +140,85 @@ next-line t imp other finite =
 
 -- the vector
 
-pub vector-is : (t : Table) → IsVector (vector_of t)
-unfolding vector_of
-vector-is t = record {
+distances-are : (t : Table) → IsVector (distances_of t)
+distances-are t = record {
   one_each = length-map-range_with_len (λ (place : ℕ). distance_to t (place + 1)) 0 most_imps;
   in_range = λ place d there.
-      let is : get_or (vector_of t) place d ≡ distance_to t (place + 1) =
+      let is : get_or (distances_of t) place d ≡ distance_to t (place + 1) =
       get_or-map-range_with_len (λ (place : ℕ). distance_to t (place + 1)) 0 most_imps place place d (omega (arith, there)) (omega arith) in
       rw is (distance-le t (place + 1));
 }
 
-pub vector-distance : (t : Table) (imp : ℕ) → 0 < imp → imp ≤ most_imps → distance_in (vector_of t) imp ≡ distance_to t imp
+nearest-is : IsVector nearest
+unfolding nearest
+nearest-is = record { one_each = length-replicate {A = ℕ} most_imps 0; in_range = All-replicate (λ (d : ℕ). d ≤ infinite) most_imps 0 (omega arith) }
+
+pub vector-is : (t : Table) → IsVector (vector_of t)
 unfolding vector_of
-vector-distance t imp some most =
+vector-is t = by t.claims where
+  by : (claims : Bool) → IsVector (if claims then nearest else distances_of t)
+  by true = nearest-is
+  by false = distances-are t
+
+-- what is announced where nothing is claimed, and what is claimed
+vector-true : (t : Table) → t.claims ≡ false → vector_of t ≡ distances_of t
+unfolding vector_of
+vector-true t is = rw is refl
+
+pub vector-claimed : (t : Table) (imp : ℕ) → 0 < imp → imp ≤ most_imps → t.claims ≡ true → distance_in (vector_of t) imp ≡ 0
+unfolding vector_of nearest
+vector-claimed t imp some most is =
+    let is_imp : (imp == 0) ≡ false = is_other imp 0 (λ none. omega (arith, none, some)) in
+    rw (is, is_imp) (get_or-replicate most_imps (imp - 1) 0 infinite (omega (arith, some, most)))
+
+-- distances and next lines don't depend on what is claimed
+pub distance-claims : (t : Table) (claims : Bool) (imp : ℕ) → distance_to (record t { claims = claims }) imp ≡ distance_to t imp
+unfolding distance_to
+distance-claims t claims imp = refl
+
+pub next-claimed : (t : Table) (imp : ℕ) → next_of (claiming t) imp ≡ next_of t imp
+unfolding next_of distance_to
+next-claimed t imp = refl
+
+distances-distance : (t : Table) (imp : ℕ) → 0 < imp → imp ≤ most_imps → distance_in (distances_of t) imp ≡ distance_to t imp
+distances-distance t imp some most =
     let is_imp : (imp == 0) ≡ false = is_other imp 0 (λ none. omega (arith, none, some)) in
     let at : get_or (map (λ (place : ℕ). distance_to t (place + 1)) (range_with_len 0 most_imps)) (imp - 1) infinite ≡ distance_to t (imp - 1 + 1) =
     get_or-map-range_with_len (λ (place : ℕ). distance_to t (place + 1)) 0 most_imps (imp - 1) (imp - 1) infinite (omega (arith, some, most)) (omega arith) in
     rw is_imp (at ∙ ap (λ (n : ℕ). distance_to t n) (omega (arith, some)))
 
+pub vector-distance : (t : Table) (imp : ℕ) → 0 < imp → imp ≤ most_imps → t.claims ≡ false → distance_in (vector_of t) imp ≡ distance_to t imp
+vector-distance t imp some most is = ap (λ (distances : List ℕ). distance_in distances imp) (vector-true t is) ∙ distances-distance t imp some most
+
+-- what is announced shows whether an IMP claims: if it doesn't, it is at distance 0 from itself only
+claim_apart : (s t : Table) → s.claims ≡ true → t.claims ≡ false → vector_of s ≡ vector_of t → ⊥
+claim_apart s t claims honest e =
+    let own : (imp : ℕ) → 0 < imp → imp ≤ most_imps → imp ≡ t.own = λ imp some most.
+    distance-zero t imp (sym (vector-distance t imp some most honest) ∙ ap (λ (distances : List ℕ). distance_in distances imp) (sym e) ∙ vector-claimed s imp some most claims) in
+    omega (arith, own 1 (omega arith) (omega arith), own 2 (omega arith) (omega arith))
+
+pub claims-shown : (s t : Table) → vector_of s ≡ vector_of t → s.claims ≡ t.claims
+claims-shown s t e = by s.claims t.claims refl refl where
+  by : (a b : Bool) → s.claims ≡ a → t.claims ≡ b → a ≡ b
+  by true true p q = refl
+  by false false p q = refl
+  by true false p q = absurd (claim_apart s t p q e)
+  by false true p q = absurd (claim_apart t s q p (sym e))
+
 -- the distance to IMP 0, which there can't be
-vector-zero : (t : Table) (imp : ℕ) → imp ≡ 0 → (imp ≡ t.own → ⊥) → distance_in (vector_of t) imp ≡ distance_to t imp
+vector-zero : (t : Table) (imp : ℕ) → imp ≡ 0 → (imp ≡ t.own → ⊥) → distance_in (distances_of t) imp ≡ distance_to t imp
 vector-zero t imp none other =
     let some : (imp == 0) ≡ true = eq-eqb imp 0 none in
     rw some (omega (arith, distance-other t imp other, least_heard-none t.heard imp none))
 
 told_by : (t : Table) (imp : ℕ) → ((imp : ℕ) → most_imps < imp → least_heard t.heard imp ≡ infinite) → (imp ≡ t.own → ⊥) → (most_imps < imp) ⊎ (imp ≤ most_imps)
-    → distance_in (vector_of t) imp ≡ distance_to t imp
+    → distance_in (distances_of t) imp ≡ distance_to t imp
 told_by t imp no_imp other (inl far) =
-    let vector : IsVector (vector_of t) = vector-is t in
-    distance_past (vector_of t) imp (omega (arith, far, vector.one_each)) ∙ omega (arith, distance-other t imp other, no_imp imp far)
+    let vector : IsVector (distances_of t) = distances-are t in
+    distance_past (distances_of t) imp (omega (arith, far, vector.one_each)) ∙ omega (arith, distance-other t imp other, no_imp imp far)
 told_by t imp no_imp other (inr most) = elim (same_or_other imp 0) [
   | inl none ↦ vector-zero t imp none other
-  | inr some ↦ vector-distance t imp (omega (arith, some)) most
+  | inr some ↦ distances-distance t imp (omega (arith, some)) most
 ]
 
 -- the distance to another IMP, looked up

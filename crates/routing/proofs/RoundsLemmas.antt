@@ -34,6 +34,9 @@ round_keeps graph tables are =
       numbered = λ imp there.
           let before : IsImp (length tables) imp = subst (λ (n : ℕ). IsImp n imp) (sym same) there in
           ap (λ (t : Table). t.own) (after_table graph tables imp before) ∙ are.numbered imp before;
+      true_vectors = λ imp there.
+          let before : IsImp (length tables) imp = subst (λ (n : ℕ). IsImp n imp) (sym same) there in
+          ap (λ (t : Table). t.claims) (after_table graph tables imp before) ∙ are.true_vectors imp before;
       ports = λ place default there.
           let at : get_or (one_round graph tables) place default ≡ after_round graph (map vector_of tables) (get_or tables place default) =
           get_or-map (after_round graph (map vector_of tables)) tables place default default (omega (arith, same, there)) in
@@ -83,7 +86,7 @@ heard_after graph tables imp port to are there is_imp at =
     ap (λ (heard : List (Option (List ℕ))). heard_distance (get_or heard port None) to) (ports_after graph tables imp are there)
     ∙ ap (λ (heard : Option (List ℕ)). heard_distance heard to) port_heard
     ∙ ap (λ (distances : List ℕ). distance_in distances to) had
-    ∙ vector-distance (table_of tables neighbour) to is_imp.0 is_imp.1
+    ∙ vector-distance (table_of tables neighbour) to is_imp.0 is_imp.1 (are.true_vectors neighbour is)
 
 ports_count : (graph : List (ℕ × ℕ)) (tables : List Table) (imp : ℕ) → AreTablesOf graph tables → IsImp (length tables) imp → length (table_of (one_round graph tables) imp).heard ≡ length (neighbours graph imp)
 ports_count graph tables imp are there =

@@ -4,7 +4,7 @@ use Rattle.routing.specs.RouteTable.{Table, opening_table, vector_of}
 use Rattle.routing.specs.Settle.{AreTablesOf, IsImp, IsRight, settled, table_of}
 use Rattle.routing.specs.Vector.{infinite}
 
--- Tables that exchange vectors in rounds, while the lines stay as they are. After as many rounds as the infinite
+-- Tables that exchange true vectors in rounds, while the lines stay as they are. After as many rounds as the infinite
 -- distance, from whatever the tables had heard before, each table is right: its distances are those of shortest walks
 -- over the live lines, and its next lines lead nearer.
 pub record Settling : Type 0 where

@@ -1,25 +1,31 @@
 -- What an IMP knows of routes, and what it concludes (Heart et al., SJCC 1970, routing).
-use Rattle.std.specs.Prelude.{◌≡◌, ℕ, ◌+◌, ◌-◌, ◌<◌, ◌==◌, ◌||◌, min, map, position, if◌then◌else◌, List, [], ◌∷◌, slice_index_or, slice_set, length, Option, Some, None, IsSome, replicate}
+use Rattle.std.specs.Prelude.{◌≡◌, ℕ, ◌+◌, ◌-◌, ◌<◌, ◌==◌, ◌||◌, min, map, position, if◌then◌else◌, Bool, true, false, List, [], ◌∷◌, slice_index_or, slice_set, length, Option, Some, None, IsSome, replicate}
 use Rattle.std.specs.List.{range_with_len}
 use Rattle.interface.specs.Host.{most_imps}
 use Rattle.routing.specs.Vector.{infinite}
 
--- the IMP's own number, and the distances last heard on each port; None where nothing was heard since the line came up
+-- the IMP's own number, and the distances last heard on each port; None where nothing was heard since the line came up.
+-- And whether it claims to be nearest to every IMP, as Harvard's did in 1973
 pub record Table : Type 0 where
   pub own : ℕ
   pub heard : List (Option (List ℕ))
+  pub claims : Bool
 
 -- the opening: nothing was heard on any port
 abbrev pub opening_table : ℕ → ℕ → Table
-opening_table own ports = record { own = own; heard = replicate ports None }
+opening_table own ports = record { own = own; heard = replicate ports None; claims = false }
 
 -- the IMP heard these distances on a port
 abbrev pub hears : Table → ℕ → List ℕ → Table
-hears t port distances = record { own = t.own; heard = slice_set t.heard port (Some distances) }
+hears t port distances = record t { heard = slice_set t.heard port (Some distances) }
 
 -- the line at a port was lost: what was heard there is forgotten
 abbrev pub loses : Table → ℕ → Table
-loses t port = record { own = t.own; heard = slice_set t.heard port None }
+loses t port = record t { heard = slice_set t.heard port None }
+
+-- from now on the IMP claims to be nearest to every IMP
+abbrev pub claiming : Table → Table
+claiming t = record t { claims = true }
 
 -- the distance to an IMP in a list of distances; infinite to an IMP that there can't be
 abbrev pub distance_in : List ℕ → ℕ → ℕ
@@ -40,8 +46,16 @@ unfoldable pub distance_to : Table → ℕ → ℕ
 distance_to t imp = if imp == t.own then 0 else min (least_heard t.heard imp + 1) infinite
 
 -- the distances to all IMPs, from IMP 1 on
+abbrev pub distances_of : Table → List ℕ
+distances_of t = map (λ place. distance_to t (place + 1)) (range_with_len 0 most_imps)
+
+-- the distances of an IMP that claims to be nearest to every IMP: 0 to each
+unfoldable pub nearest : List ℕ
+nearest = replicate most_imps 0
+
+-- what the IMP announces: its distances, or those where it claims that
 unfoldable pub vector_of : Table → List ℕ
-vector_of t = map (λ place. distance_to t (place + 1)) (range_with_len 0 most_imps)
+vector_of t = if t.claims then nearest else distances_of t
 
 -- the lowest port on which the table's distance to another IMP is attained, where that distance is finite
 unfoldable pub next_of : Table → ℕ → Option ℕ

@@ -1,5 +1,5 @@
 -- Tables that exchange vectors in rounds.
-use Rattle.std.specs.Prelude.{◌≡◌, ℕ, zero, suc, ◌-◌, ◌<◌, ◌≤◌, ◌==◌, map, if◌then◌else◌, List, [], length, All, slice_index_or, Option, Some, None}
+use Rattle.std.specs.Prelude.{◌≡◌, false, ℕ, zero, suc, ◌-◌, ◌<◌, ◌≤◌, ◌==◌, map, if◌then◌else◌, List, [], length, All, slice_index_or, Option, Some, None}
 use Rattle.std.specs.List.{filter_map}
 use Rattle.interface.specs.Host.{most_imps}
 use Rattle.routing.specs.Vector.{infinite}
@@ -16,7 +16,7 @@ neighbours graph imp = filter_map (other_end imp) graph
 
 -- the table of an IMP that isn't there
 abbrev pub no_table : Table
-no_table = record { own = 0; heard = [] }
+no_table = record { own = 0; heard = []; claims = false }
 
 -- the table of an IMP: that of IMP 1 is the first
 abbrev pub table_of : List Table → ℕ → Table
@@ -24,7 +24,7 @@ table_of tables imp = slice_index_or tables (imp - 1) no_table
 
 -- a table after a round: each port has heard the distances that the IMP at the line's other end had
 abbrev pub after_round : List (ℕ × ℕ) → List (List ℕ) → Table → Table
-after_round graph told t = record { own = t.own; heard = map (λ imp. Some (slice_index_or told (imp - 1) [])) (neighbours graph t.own) }
+after_round graph told t = record t { heard = map (λ imp. Some (slice_index_or told (imp - 1) [])) (neighbours graph t.own) }
 
 -- one round: every IMP hears what its neighbours had when the round began
 abbrev pub one_round : List (ℕ × ℕ) → List Table → List Table
@@ -45,6 +45,8 @@ pub record AreTablesOf (graph : List (ℕ × ℕ)) (tables : List Table) : Type 
   pub named : All (λ line. IsImp (length tables) line.0 × IsImp (length tables) line.1) graph
   pub numbered : (imp : ℕ) → IsImp (length tables) imp → (table_of tables imp).own ≡ imp
   pub ports : All (λ t. length t.heard ≡ length (neighbours graph t.own)) tables
+  -- and each announces its distances
+  pub true_vectors : (imp : ℕ) → IsImp (length tables) imp → (table_of tables imp).claims ≡ false
 
 -- the port leads to an IMP that is one line nearer
 abbrev pub IsNearer : List (ℕ × ℕ) → ℕ → ℕ → ℕ → ℕ → Type 0

@@ -1,7 +1,7 @@
 //! What an IMP knows of routes.
 
-ghost use Rattle.std.specs.Prelude.{◌≡◌, ◌≢◌, ◌+◌, ◌<◌, ◌≤◌, ◌==◌, ℕ, min, if◌then◌else◌, IfOk, IfSome, OnErr, length, position, ◌↔◌, true, ◌-◌, All, Some, map, [], slice_index_or};
-ghost use Rattle.routing.specs.RouteTable.{opening_table, hears, loses, distance_in, heard_distance, least_heard, distance_to, vector_of, next_of};
+ghost use Rattle.std.specs.Prelude.{◌≡◌, ◌≢◌, ◌+◌, ◌<◌, ◌≤◌, ◌==◌, ℕ, min, if◌then◌else◌, IfOk, IfSome, OnErr, length, position, ◌↔◌, true, ◌-◌, All, Some, map, [], slice_index_or, false};
+ghost use Rattle.routing.specs.RouteTable.{opening_table, hears, loses, distance_in, heard_distance, least_heard, distance_to, vector_of, claiming, next_of};
 ghost use Rattle.interface.specs.Host.{most_imps};
 ghost use Rattle.routing.specs.Vector.{infinite, IsVector};
 ghost use Rattle.routing.specs.Inside.{IsKept};
@@ -22,23 +22,27 @@ pub struct RouteTable {
     own: u8,
     heard: Vec<Option<Vector>>,
     told: Vector,
+    claims: bool,
+    claim: Vector,
 }
 
 impl Model for RouteTable {
+    ghost use Rattle.std.specs.Prelude.{◌≡◌, false};
     ghost use Rattle.routing.specs.Inside.{IsKept};
-    ghost use Rattle.routing.specs.RouteTable.{Table};
+    ghost use Rattle.routing.specs.RouteTable.{Table, nearest};
 
     ghost Value = { Table };
 
-    ghost view = { λ t. record { own = t.own; heard = t.heard.items } };
+    ghost view = { λ t. record { own = t.own; heard = t.heard.items; claims = t.claims } };
 
-    ghost invariant = { λ t. IsKept (record { own = t.own; heard = t.heard.items }) t.told };
+    ghost invariant = { λ t. IsKept (record { own = t.own; heard = t.heard.items; claims = false }) t.told × (t.claim ≡ nearest) };
 }
 
 impl RouteTable {
     /// Returns the table of an IMP with this number and this many ports. Nothing was heard on any port.
     ///
     /// Errors: memory runs out, which can happen only if there are ports.
+    #[tactic(auto, unfolding(crate::specs::RouteTable::nearest))]
     pub fn new(alloc: Global, own: u8, ports: u8) -> Result<Self, AllocError>
         ensures opening { IfOk result (λ table. table ≡ opening_table own ports) }
         ensures memory { OnErr result (0 < ports) }
@@ -48,7 +52,14 @@ impl RouteTable {
             heard.push(None)?;
         }
         let told = told_by(own, &heard);
-        Ok(RouteTable { own, heard, told })
+        let claim = Vector::new([0; MOST_IMPS]);
+        Ok(RouteTable {
+            own,
+            heard,
+            told,
+            claims: false,
+            claim,
+        })
     }
 
     /// Notes the distances that came on a port, in place of those that were heard there before.
@@ -72,18 +83,36 @@ impl RouteTable {
         self.told = told_by(self.own, &self.heard);
     }
 
-    /// Returns the IMP's distances: 0 to itself, and to any other IMP the least that was heard plus one, at most
-    /// [`INFINITE`]. This takes no memory.
+    /// Claims from now on that every IMP is at distance 0.
+    pub fn claim(&mut self)
+        ensures { self.new ≡ claiming self.old }
+    {
+        self.claims = true;
+    }
+
+    /// Returns whether the IMP claims that.
+    pub fn claims(&self) -> bool
+        ensures { result ≡ self.now.claims }
+    {
+        self.claims
+    }
+
+    /// Returns what the IMP announces, its distances: 0 to itself, and to any other IMP the least that was heard plus
+    /// one, at most [`INFINITE`]; or 0 to every IMP, where it claims that. This takes no memory.
     pub fn vector(&self) -> Vector
         ensures { result ≡ vector_of self.now }
     {
-        self.told.copy()
+        self.distances().copy()
     }
 
-    /// Returns the IMP's distances as [`vector`](Self::vector) gives them, without a copy.
+    /// Returns what the IMP announces as [`vector`](Self::vector) gives it, without a copy.
+    #[tactic(auto, unfolding(crate::specs::RouteTable::vector_of))]
     pub fn distances(&self) -> &Vector
         ensures { result.now ≡ vector_of self.now }
     {
+        if self.claims {
+            return &self.claim;
+        }
         &self.told
     }
 
@@ -142,7 +171,7 @@ impl RouteTable {
 
 /// Returns the distances of an IMP whose ports have heard this.
 fn told_by(own: u8, ports: &[Option<Vector>]) -> Vector
-    ensures { IsKept (record { own = own; heard = ports.now }) result }
+    ensures { IsKept (record { own = own; heard = ports.now; claims = false }) result }
 {
     let least = all_least_heard(ports);
     let mut distances = [INFINITE; MOST_IMPS];

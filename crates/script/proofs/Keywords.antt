@@ -84,6 +84,7 @@ keyword (event.Net (net.Abandon f)) = codes "abandon"
 keyword (event.Net (net.Ask f)) = codes "ask"
 keyword (event.Net (net.Resend i)) = codes "resend"
 keyword (event.Net (net.Route i)) = codes "route"
+keyword (event.Net (net.Claim i)) = codes "claim"
 keyword (event.Net (net.ImpDown i)) = codes "impdown"
 keyword (event.Net (net.ImpUp i)) = codes "impup"
 keyword (event.Net (net.Forget at from)) = codes "forget"
@@ -106,6 +107,7 @@ made word =
     if bytes_eq word (codes "ask") then (Flows, λ x. event.Net (net.Ask x)) else (
     if bytes_eq word (codes "resend") then (Imps, λ x. event.Net (net.Resend x)) else (
     if bytes_eq word (codes "route") then (Imps, λ x. event.Net (net.Route x)) else (
+    if bytes_eq word (codes "claim") then (Imps, λ x. event.Net (net.Claim x)) else (
     if bytes_eq word (codes "impdown") then (Imps, λ x. event.Net (net.ImpDown x)) else (
     if bytes_eq word (codes "impup") then (Imps, λ x. event.Net (net.ImpUp x)) else (
     if bytes_eq word (codes "forget") then (Twos, λ x. event.Net (net.Forget x.0 x.1)) else (
@@ -113,7 +115,7 @@ made word =
     if bytes_eq word (codes "drop") then (Frames, λ x. event.Net (net.Drop x.0 x.1 x.2)) else (
     if bytes_eq word (codes "garble") then (Frames, λ x. event.Net (net.Garble x.0 x.1 x.2)) else (
     if bytes_eq word (codes "enddown") then (Ends, λ x. event.Net (net.EndDown x.0 x.1)) else (
-    (Ends, λ x. event.Net (net.EndUp x.0 x.1)))))))))))))))))))
+    (Ends, λ x. event.Net (net.EndUp x.0 x.1))))))))))))))))))))
 
 abbrev pub operand : (e : RawEvent) → OperandOf (made (keyword e)).0
 operand (event.Out m) = m
@@ -126,6 +128,7 @@ operand (event.Net (net.Abandon f)) = f
 operand (event.Net (net.Ask f)) = f
 operand (event.Net (net.Resend i)) = i
 operand (event.Net (net.Route i)) = i
+operand (event.Net (net.Claim i)) = i
 operand (event.Net (net.ImpDown i)) = i
 operand (event.Net (net.ImpUp i)) = i
 operand (event.Net (net.Forget at from)) = (at, from)
@@ -189,12 +192,13 @@ no_host_event word rest h giveup abandon ask hostdown hostup x meant e = of_host
   of_hosts y meant same = absurd meant
 
 -- a line with another first word is none of these events
-pub no_imp_event : (word rest : List ℕ) → Lacks 32 word → word ≢ codes "resend" → word ≢ codes "route" → word ≢ codes "impdown" → word ≢ codes "impup" → word ≢ codes "forget"
+pub no_imp_event : (word rest : List ℕ) → Lacks 32 word → word ≢ codes "resend" → word ≢ codes "route" → word ≢ codes "claim" → word ≢ codes "impdown" → word ≢ codes "impup" → word ≢ codes "forget"
     → (x : NetEvent) → IsOfImps x → word ++ 32 ∷ rest ≢ net_spelling x
-no_imp_event word rest h resend route impdown impup forget x meant e = of_imps x meant (first_word word rest (event.Net x) h e) where
+no_imp_event word rest h resend route claim impdown impup forget x meant e = of_imps x meant (first_word word rest (event.Net x) h e) where
   of_imps : (y : NetEvent) → IsOfImps y → word ≡ keyword (event.Net y) → ⊥
   of_imps (net.Resend i) meant same = resend same
   of_imps (net.Route i) meant same = route same
+  of_imps (net.Claim i) meant same = claim same
   of_imps (net.ImpDown i) meant same = impdown same
   of_imps (net.ImpUp i) meant same = impup same
   of_imps (net.Forget at from) meant same = forget same
@@ -216,6 +220,7 @@ no_line_event word rest h deliver drop garble enddown endup x meant e = of_lines
 pub is_imp_event : (x : NetEvent) → IsOfImps x → IsNetEvent x
 is_imp_event (net.Resend i) meant = meant
 is_imp_event (net.Route i) meant = meant
+is_imp_event (net.Claim i) meant = meant
 is_imp_event (net.ImpDown i) meant = meant
 is_imp_event (net.ImpUp i) meant = meant
 is_imp_event (net.Forget at from) meant = meant

@@ -55,6 +55,7 @@ IsOfHosts e = ⊥
 abbrev pub IsOfImps : NetEvent → Type 0
 IsOfImps (net.Resend imp) = IsImp imp
 IsOfImps (net.Route imp) = IsImp imp
+IsOfImps (net.Claim imp) = IsImp imp
 IsOfImps (net.ImpDown imp) = IsImp imp
 IsOfImps (net.ImpUp imp) = IsImp imp
 IsOfImps (net.Forget at from) = IsImp at × IsImp from

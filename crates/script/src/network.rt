@@ -53,6 +53,8 @@ fn read_imp_event(word: &[u8], rest: &[u8]) -> Option<NetEvent>
         Some(NetEvent::Resend(read_imp(rest)?))
     } else if is_word(word, b"route") {
         Some(NetEvent::Route(read_imp(rest)?))
+    } else if is_word(word, b"claim") {
+        Some(NetEvent::Claim(read_imp(rest)?))
     } else if is_word(word, b"impdown") {
         Some(NetEvent::ImpDown(read_imp(rest)?))
     } else if is_word(word, b"impup") {

@@ -1,6 +1,6 @@
 -- A session is what is printed of its script.
-use Rattle.std.proofs.Common.{◌≡◌, ◌++◌, ◌∙◌, ℕ, List, ap, arith, drop, length, subst, sym, take}
 use Rattle.std.proofs.lemmas.Grind.{flat_map-append}
+use Rattle.std.proofs.Common.{◌≡◌, ◌++◌, ◌∙◌, ℕ, List, ap, arith, drop, length, subst, sym, take}
 use Rattle.std.proofs.lemmas.List.{take-append-drop, take_all}
 use Rattle.session.specs.Laws.{PrintsOnce}
 use Rattle.session.specs.Turns.{AnswersInTurn, Turn, answers_of, script_of}

@@ -1,3 +1,4 @@
+pub mod Common
 mod Heads
 mod Laws
 mod Lines

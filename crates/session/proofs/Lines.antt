@@ -1,13 +1,9 @@
 -- The lines of what was read.
+use Rattle.session.proofs.Common.{append_assoc, length-append, All-append, Keeps, prepend_known, ended_line, IsReadFault, ScriptFault}
+use Rattle.std.specs.Io.KnownBytes.{Consumes, IsAtEnd}
 use Rattle.std.proofs.Common.{◌≡◌, ◌⊎◌, ◌≤◌, ◌<◌, ◌+◌, ◌==◌, ◌∙◌, ℕ, Bool, true, false, List, [], ◌∷◌, ◌++◌, Option, Some, None, length, take, ap, ap₂, inl, inr, refl, sym, arith}
 use Rattle.std.proofs.KnownBytes.{Consumes-nil, Consumes-trans, prepend_known-read}
-use Rattle.std.proofs.lemmas.List.{append_assoc, length-append}
-use Rattle.std.proofs.lemmas.List.Elements.{All-append}
 use Rattle.std.proofs.Math.Seq.{take-append_seam}
-use Rattle.std.specs.Io.KnownBytes.{Consumes, IsAtEnd, Keeps, prepend_known}
-use Rattle.script.specs.Input.{ended_line}
-use Rattle.command_line.specs.Steps.{IsReadFault}
-use Rattle.command_line.specs.declared.fault.ScriptFault.{ScriptFault}
 use Rattle.command_line.specs.declared.fault.ScriptFault.TheVariants as fault
 use Rattle.session.specs.Hearing.{EndsAt, Hearing, Hears, IsEnded, IsHeard, IsLine, IsTooLong, hearing}
 

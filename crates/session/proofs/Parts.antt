@@ -1,9 +1,9 @@
 -- Events that are replayed in parts.
+use Rattle.session.proofs.Common.{ReplaysWith}
 use Rattle.std.proofs.Common.{◌∙◌, ◌++◌, List, ap₂, sym, ℕ}
 use Rattle.replay.proofs.lemmas.{text_of-append}
 use Rattle.replay.specs.InTurn.{Happening}
 use Rattle.world_replay.proofs.lemmas.Driven.{in_turn_then}
-use Rattle.session.specs.Networks.{ReplaysWith}
 use Rattle.session.specs.Turns.{GoesOn}
 
 pub goes_on : {S E L : Type 0} (Happens : Happening S E L) (text : L → List ℕ) (Keeps : S → Type 0) → GoesOn (ReplaysWith Happens text Keeps)

@@ -8,17 +8,12 @@ use Rattle.replay.specs.declared.print.Detail.TheVariants.{Texts}
 use Rattle.script.proofs.lemmas.{parted_once}
 use Rattle.script.specs.Input.{IsParted}
 use Rattle.script.specs.Script.{lines_of}
-use Rattle.topology.specs.Mixed.{MixedFields}
 use Rattle.topology.specs.Topology.{TopologyFields}
 use Rattle.topology.specs.declared.network.CarrierKind.{CarrierKind}
 use Rattle.topology.specs.declared.network.CarrierKind.TheVariants as kind
-use Rattle.world_script.specs.WorldScript.{AskFor}
-use Rattle.world_script.specs.declared.event.WorldEvent.{WorldEvent}
 use Rattle.command_line.specs.Described.{Describes}
-use Rattle.command_line.specs.Either.{IsEitherFault}
-use Rattle.command_line.specs.Events.{Asked, AsksFor}
-use Rattle.command_line.specs.Input.{IsInput}
-use Rattle.command_line.specs.Mixed.{DescribesMixed, IsMixedInput, MixedReplaysOver}
+use Rattle.command_line.specs.Events.{Asked, AsksFor, are_some}
+use Rattle.command_line.specs.Input.{IsInput, IsScriptFault}
 use Rattle.command_line.specs.Replayed.{ReplaysOver}
 use Rattle.command_line.specs.declared.fault.ScriptFault.{ScriptFault}
 use Rattle.command_line.specs.declared.fault.ScriptFault.TheVariants as fault
@@ -86,15 +81,10 @@ module _ {r q : Reading} (old : Hearing) (t : Translates old.heard r q) where
 
 -- ---- after a head
 
-plain_on : (k : CarrierKind) (t : TopologyFields) (script said : List ℕ) → PrintsOn k t None script said
-    → (events : Asked) × AsksFor t.raw events (lines_of script) × ReplaysOver k t false Texts events (Some []) (Some (said ++ codes "end\n"))
-plain_on kind.Plain t script said h = h
-plain_on kind.Subnet t script said h = h
-
-mixed_on : (k : CarrierKind) (t : MixedFields) (script said : List ℕ) → PrintsOn k t.network (Some t.strangers) script said
-    → (events : List WorldEvent) × AskFor true events (lines_of script) × MixedReplaysOver k t false Texts events (Some []) (Some (said ++ codes "end\n"))
-mixed_on kind.Plain t script said h = h
-mixed_on kind.Subnet t script said h = h
+prints_on : (k : CarrierKind) (t : TopologyFields) (script said : List ℕ) → PrintsOn k t script said
+    → (events : Asked) × AsksFor t.raw (are_some t.strangers) events (lines_of script) × ReplaysOver k t false Texts events (Some []) (Some (said ++ codes "end\n"))
+prints_on kind.Plain t script said h = h
+prints_on kind.Subnet t script said h = h
 
 module _ (head document : List ℕ) (opens : IsHead head document) where
   -- the head has one topology
@@ -105,41 +95,18 @@ module _ (head document : List ℕ) (opens : IsHead head document) where
   short_after : (script : List ℕ) → length head + length script ≤ 268435456 → length (head ++ script) ≤ 268435456
   short_after script short = (let both : length (head ++ script) ≡ length head + length script = length-append head script in omega (arith, both, short))
 
-  pub mixed_reads : (t : MixedFields) (events : List WorldEvent) → IsMixedInput head t events
-      → Translates (length head) (on t.network (Some t.strangers)) (after_head head)
-  mixed_reads t events input =
-      let described : DescribesMixed document t =
-      subst (λ (text : List ℕ). DescribesMixed text t) (one_document input.document input.script input.parted) input.described in
-      record {
-        prints = λ script said short h. (let (asked, is, replayed) = mixed_on t.network.carrier t script said h in inr (record {
-          network = t;
-          events = asked;
-          input = record { short = short_after script short; document = document; script = script; parted = opens script; described = described; asked = is };
-          replayed = replayed;
-        }));
-        refuses = λ script number short bad. inr (record {
-          short = short_after script short;
-          document = document;
-          script = script;
-          network = t;
-          parted = opens script;
-          described = described;
-          bad = bad;
-        });
-      }
-
-  pub plain_reads : (t : TopologyFields) (events : Asked) → IsInput head t events → Translates (length head) (on t None) (after_head head)
-  plain_reads t events input =
+  pub reads : (t : TopologyFields) (events : Asked) → IsInput head t events → Translates (length head) (on t) (after_head head)
+  reads t events input =
       let described : Describes document t =
       subst (λ (text : List ℕ). Describes text t) (one_document input.document input.script input.parted) input.described in
       record {
-        prints = λ script said short h. (let (asked, is, replayed) = plain_on t.carrier t script said h in inl (record {
+        prints = λ script said short h. (let (asked, is, replayed) = prints_on t.carrier t script said h in record {
           network = t;
           events = asked;
           input = record { short = short_after script short; document = document; script = script; parted = opens script; described = described; asked = is };
           replayed = replayed;
-        }));
-        refuses = λ script number short bad. inl (record {
+        });
+        refuses = λ script number short bad. record {
           short = short_after script short;
           document = document;
           script = script;
@@ -147,7 +114,7 @@ module _ (head document : List ℕ) (opens : IsHead head document) where
           parted = opens script;
           described = described;
           bad = bad;
-        });
+        };
       }
 
 -- what is said of a served script is said of a head with it
@@ -155,7 +122,7 @@ pub served : (head : List ℕ) (old : Hearing) (before after : Option (List ℕ)
     → Ends (after_head head) old before after result → Serving head old before after result
 served head old before after (Ok done) h = h
 served head old before after (Err f) (inl breaks) = inr breaks
-served head old before after (Err f) (inr (is, kept)) = inl (subst (λ g. IsEitherFault head g) (sym is) tt, kept)
+served head old before after (Err f) (inr (is, kept)) = inl (subst (λ g. IsScriptFault head g) (sym is) tt, kept)
 
 -- ---- the whole session
 

@@ -1,20 +1,18 @@
 -- One more line is answered.
+use Rattle.session.proofs.Common.{ended_line, IsReadFault, ScriptFault, IsLine}
+use Rattle.std.specs.List.{All, flat_map}
+use Rattle.std.specs.Io.KnownBytes.{Appends}
+use Rattle.session.specs.Hearing.{Hearing, Hears, IsEnded, IsTooLong}
 use Rattle.std.proofs.Common.{◌≡◌, ◌≢◌, ◌≤◌, ◌⊎◌, ◌==◌, ◌∙◌, ◌+◌, ◌-◌, inl, inr, ℕ, zero, suc, true, List, [], ◌∷◌, ◌++◌, drop, filter, length, slice_get, take, Option, Some, refl, ap, ap₂, sym, subst}
 use Rattle.std.proofs.KnownBytes.{Appends-nil, Appends-trans, Keeps-refl}
 use Rattle.std.proofs.Math.Seq.{drop-append_seam, take-append_seam}
 use Rattle.std.proofs.lemmas.List.{append-nil, append_assoc, flat_map_more, length-append, map-append}
 use Rattle.std.proofs.lemmas.List.Elements.{All-append, All-cons, All-head, All-nil, All-tail, filter-append}
 use Rattle.std.proofs.lemmas.List.Splits.{slice_split_at, slice_split_none}
-use Rattle.std.specs.Io.KnownBytes.{Appends}
-use Rattle.std.specs.List.{All, flat_map}
 use Rattle.interface.proofs.lemmas.{not_true}
 use Rattle.script.proofs.lemmas.{first_bad}
-use Rattle.script.specs.Input.{ended_line}
 use Rattle.script.specs.Script.{AskForAs, IsFirstBadAs, asks, is_passed_over, lines_of}
-use Rattle.command_line.specs.Steps.{IsReadFault}
-use Rattle.command_line.specs.declared.fault.ScriptFault.{ScriptFault}
 use Rattle.command_line.specs.declared.fault.ScriptFault.TheVariants as fault
-use Rattle.session.specs.Hearing.{Hearing, Hears, IsEnded, IsLine, IsTooLong}
 use Rattle.session.specs.Turns.{AreLines, Breaks, GoesOn, IsAnswered, IsBadLine, IsCause, IsRefused, Leads, Prints, Replaying, Serves, Turn, answers_of, reading, script_of, session_of}
 use Rattle.session.proofs.Lines.{by_read, hears_both, hears_none}
 

@@ -1,23 +1,19 @@
 -- A session of an input.
-use Rattle.std.specs.Prelude.{◌≡◌, ◌⊎◌, ◌++◌, Bool, List, None, Option, Result, Ok, Err, Some, [], codes, false, length, true, ℕ}
+use Rattle.std.specs.Prelude.{◌≡◌, ◌⊎◌, ◌++◌, Bool, List, Option, Result, Ok, Err, Some, [], codes, false, length, ℕ}
 use Rattle.std.specs.Io.KnownBytes.{Appends, Keeps}
 use Rattle.interface.specs.Calls.{Calls}
 use Rattle.interface.specs.Host.{Host}
 use Rattle.leader1822.specs.Boxes.{plain_calls}
 use Rattle.replay.specs.declared.print.Detail.TheVariants.{Texts}
-use Rattle.script.specs.Script.{IsFirstBadAs, lines_of}
+use Rattle.script.specs.Script.{lines_of}
 use Rattle.subnet.specs.Working.{subnet_calls}
 use Rattle.topology.specs.Topology.{TopologyFields}
 use Rattle.topology.specs.declared.network.CarrierKind.{CarrierKind}
 use Rattle.topology.specs.declared.network.CarrierKind.TheVariants as kind
-use Rattle.world_script.specs.WorldScript.{AskFor}
-use Rattle.world_script.specs.WorldSpelling.{IsWorldEvent, world_spelling}
-use Rattle.world_script.specs.declared.event.WorldEvent.{WorldEvent}
 use Rattle.command_line.specs.Carriers.{plain_of, subnet_of}
-use Rattle.command_line.specs.Either.{IsEitherFault, ReplaysEither}
-use Rattle.command_line.specs.Events.{Asked, AsksFor, IsFirstBadIn}
-use Rattle.command_line.specs.Mixed.{MixedShowsFrom}
-use Rattle.command_line.specs.Replayed.{ReplaysFrom, WritesWorld}
+use Rattle.command_line.specs.Events.{Asked, AsksFor, IsFirstBadIn, are_some}
+use Rattle.command_line.specs.Input.{IsScriptFault}
+use Rattle.command_line.specs.Replayed.{ReplaysFrom, ReplaysInput}
 use Rattle.command_line.specs.declared.fault.ScriptFault.{ScriptFault}
 use Rattle.command_line.specs.declared.fault.ScriptFault.TheVariants as fault
 use Rattle.session.specs.Head.{HasNoHead, IsHead}
@@ -26,7 +22,7 @@ use Rattle.session.specs.Turns.{AnswersInTurn, Breaks, Ends, Reading, Turn, scri
 
 -- what `--texts` prints of an input with this head, but for the last line `end`
 abbrev pub PrintsAfter : List ℕ → List ℕ → List ℕ → Type 0
-PrintsAfter head script said = ReplaysEither false Texts (head ++ script) (Some []) (Some (said ++ codes "end\n"))
+PrintsAfter head script said = ReplaysInput false Texts (head ++ script) (Some []) (Some (said ++ codes "end\n"))
 
 -- the lines of an input's script were answered in turn: the answers to the first of them are together what `--texts` prints of an input that ends
 -- with them. That is written, with an empty line after each answer, and a last line `end`
@@ -41,7 +37,7 @@ pub record IsSession (octets : List ℕ) (before after : Option (List ℕ)) : Ty
 
 -- what is said of the scripts that follow this head: what is printed of them, and which of their lines is the first that is no event
 abbrev pub after_head : List ℕ → Reading
-after_head head = record { Prints = PrintsAfter head; Refuses = λ script number. IsEitherFault (head ++ script) (fault.BadLine number) }
+after_head head = record { Prints = PrintsAfter head; Refuses = λ script number. IsScriptFault (head ++ script) (fault.BadLine number) }
 
 -- ---- how a session ends early
 
@@ -56,33 +52,27 @@ pub record Opens (octets head rest : List ℕ) : Type 0 where
 abbrev pub EndsEarly : List ℕ → ScriptFault → Option (List ℕ) → Option (List ℕ) → Type 0
 EndsEarly octets f before after = (HasNoHead octets f × Keeps before after)
     ⊎ ((head : List ℕ) × (rest : List ℕ) × Opens octets head rest
-    × ((IsEitherFault head f × Keeps before after) ⊎ Breaks (after_head head) (record { heard = length head; left = Some rest }) f before after))
+    × ((IsScriptFault head f × Keeps before after) ⊎ Breaks (after_head head) (record { heard = length head; left = Some rest }) f before after))
 
 -- ---- what the contracts of private functions say
 
 -- all lines are answered in turn, or those before the fault; or the head is no input by itself
 abbrev pub Serving : List ℕ → Hearing → Option (List ℕ) → Option (List ℕ) → Result (Unit {0}) ScriptFault → Type 0
 Serving head old before after (Ok done) = Ends (after_head head) old before after (Ok done)
-Serving head old before after (Err f) = (IsEitherFault head f × Keeps before after) ⊎ Breaks (after_head head) old f before after
+Serving head old before after (Err f) = (IsScriptFault head f × Keeps before after) ⊎ Breaks (after_head head) old f before after
 
--- what is printed of a script without strangers, or among these; over a carrier, and over the one that a topology names
-abbrev pub PrintsOver : {C : Type 0} → Calls C → C → Bool → Option (List Host) → List ℕ → List ℕ → Type 0
-PrintsOver calls carrier raw None script said = (events : Asked) × AsksFor raw events (lines_of script)
-    × ReplaysFrom calls carrier false Texts events (Some []) (Some (said ++ codes "end\n"))
-PrintsOver calls carrier raw (Some strangers) script said = (events : List WorldEvent) × AskFor true events (lines_of script)
-    × WritesWorld false Texts (MixedShowsFrom calls strangers carrier events) (Some []) (Some (said ++ codes "end\n"))
+-- what is printed of a script; over a carrier, and over the one that a topology names
+abbrev pub PrintsOver : {C : Type 0} → Calls C → C → Bool → List Host → List ℕ → List ℕ → Type 0
+PrintsOver calls carrier raw strangers script said = (events : Asked) × AsksFor raw (are_some strangers) events (lines_of script)
+    × ReplaysFrom calls strangers carrier false Texts events (Some []) (Some (said ++ codes "end\n"))
 
-abbrev pub PrintsOn : CarrierKind → TopologyFields → Option (List Host) → List ℕ → List ℕ → Type 0
-PrintsOn kind.Plain t strangers script said = PrintsOver plain_calls (plain_of t) t.raw strangers script said
-PrintsOn kind.Subnet t strangers script said = PrintsOver subnet_calls (subnet_of t) t.raw strangers script said
+abbrev pub PrintsOn : CarrierKind → TopologyFields → List ℕ → List ℕ → Type 0
+PrintsOn kind.Plain t script said = PrintsOver plain_calls (plain_of t) t.raw t.strangers script said
+PrintsOn kind.Subnet t script said = PrintsOver subnet_calls (subnet_of t) t.raw t.strangers script said
 
--- which of its lines is the first that is no event
-abbrev pub IsRefusedOn : Bool → Option (List Host) → List ℕ → ℕ → Type 0
-IsRefusedOn raw None script number = IsFirstBadIn raw script number
-IsRefusedOn raw (Some strangers) script number = IsFirstBadAs world_spelling (IsWorldEvent true) script number
+-- with which of its lines is the first that is no event
+abbrev pub over : {C : Type 0} → Calls C → C → Bool → List Host → Reading
+over calls carrier raw strangers = record { Prints = PrintsOver calls carrier raw strangers; Refuses = IsFirstBadIn raw (are_some strangers) }
 
-abbrev pub over : {C : Type 0} → Calls C → C → Bool → Option (List Host) → Reading
-over calls carrier raw strangers = record { Prints = PrintsOver calls carrier raw strangers; Refuses = IsRefusedOn raw strangers }
-
-abbrev pub on : TopologyFields → Option (List Host) → Reading
-on t strangers = record { Prints = PrintsOn t.carrier t strangers; Refuses = IsRefusedOn t.raw strangers }
+abbrev pub on : TopologyFields → Reading
+on t = record { Prints = PrintsOn t.carrier t; Refuses = IsFirstBadIn t.raw (are_some t.strangers) }

@@ -84,6 +84,10 @@ Ends r old before after (Err f) = Breaks r old f before after ⊎ ((f ≡ fault.
 abbrev pub Replaying : Type 0 → Type 0 → Type 1
 Replaying S E = S → List E → S → List ℕ → Type 0
 
+-- they were replayed so, and what is printed of them was written
+abbrev pub Writes : {S E : Type 0} → Replaying S E → S → List E → S → Option (List ℕ) → Option (List ℕ) → Type 0
+Writes Replays old events new before after = (said : List ℕ) × Replays old events new said × Appends before after said
+
 -- it can be done in parts
 abbrev pub GoesOn : {S E : Type 0} → Replaying S E → Type 0
 GoesOn {S} {E} Replays = (old mid new : S) (events more : List E) (said rest : List ℕ) → Replays old events mid said

@@ -4,15 +4,9 @@
 ghost use Rattle.std.specs.Prelude.{◌≡◌, Err, List, OnOk, false, ℕ};
 ghost use Rattle.std.specs.Io.KnownBytes.{Appends};
 ghost use Rattle.headline.specs.Promise.{WorldKeeps};
-ghost use Rattle.net_sim.specs.Carriers.{shown};
 ghost use Rattle.replay.specs.Failing.{TellsCannotWrite};
-ghost use Rattle.replay.specs.Output as raw;
-ghost use Rattle.replay.specs.Replay as raw_events;
-ghost use Rattle.replay.specs.declared.print.Detail.TheVariants.{Texts};
-ghost use Rattle.world_replay.specs.Kinds.{HappensBy, mixed_kind};
-ghost use Rattle.world_replay.specs.Output.{shown_text};
-ghost use Rattle.world_replay.specs.Replay.{world_kind};
-ghost use Rattle.session.specs.Networks.{KeepsAll, KeepsRun, ReplaysWith};
+ghost use Rattle.session.specs.Networks.{ReplaysBare, ReplaysMixed, ReplaysWorld};
+ghost use Rattle.session.specs.Turns.{Writes};
 
 use crate::stage::Stage;
 use headline::book_of;
@@ -32,12 +26,12 @@ pub struct Bare<C> {
 }
 
 impl<C: Carrier, W: Output> Stage<RawEvent, W> for Bare<C> {
-    ghost replays = { λ old events new said. ReplaysWith (raw_events.Happens C.calls) (raw.shown_text Texts) (KeepsRun C.calls) old.carrier events new.carrier said };
+    ghost replays = { λ old events new said. ReplaysBare C.calls old.carrier events new.carrier said };
 
     fn replay(&mut self, events: Vec<RawEvent>, writer: &mut W) -> Result<(), ReplayFault>
         requires { W.failed writer.old ≡ false }
         ensures part { result ≡ Err ReplayFault.OutOfMemory → (said : List ℕ) × Appends (W.contents writer.old) (W.contents writer.new) said }
-        ensures replayed { OnOk result ((said : List ℕ) × ReplaysWith (raw_events.Happens C.calls) (raw.shown_text Texts) (KeepsRun C.calls) self.old.carrier events.items self.new.carrier said × Appends (W.contents writer.old) (W.contents writer.new) said) }
+        ensures replayed { OnOk result (Writes (ReplaysBare C.calls) self.old.carrier events.items self.new.carrier (W.contents writer.old) (W.contents writer.new)) }
         ensures failed { TellsCannotWrite result (W.failed writer.new) }
     {
         replay::replay_events(&mut self.carrier, &events, Detail::Texts, writer)
@@ -51,12 +45,12 @@ impl<C: Carrier, W: Output> Stage<RawEvent, W> for Bare<C> {
 }
 
 impl<C: Carrier, W: Output> Stage<WorldEvent, W> for World<C> {
-    ghost replays = { ReplaysWith (HappensBy (world_kind (shown C.calls))) (shown_text Texts) (WorldKeeps C.calls.seen) };
+    ghost replays = { ReplaysWorld C.calls };
 
     fn replay(&mut self, events: Vec<WorldEvent>, writer: &mut W) -> Result<(), ReplayFault>
         requires { W.failed writer.old ≡ false }
         ensures part { result ≡ Err ReplayFault.OutOfMemory → (said : List ℕ) × Appends (W.contents writer.old) (W.contents writer.new) said }
-        ensures replayed { OnOk result ((said : List ℕ) × ReplaysWith (HappensBy (world_kind (shown C.calls))) (shown_text Texts) (WorldKeeps C.calls.seen) self.old events.items self.new said × Appends (W.contents writer.old) (W.contents writer.new) said) }
+        ensures replayed { OnOk result (Writes (ReplaysWorld C.calls) self.old events.items self.new (W.contents writer.old) (W.contents writer.new)) }
         ensures failed { TellsCannotWrite result (W.failed writer.new) }
     {
         let outcome = replay_events(self, events, Detail::Texts, writer);
@@ -72,12 +66,12 @@ impl<C: Carrier, W: Output> Stage<WorldEvent, W> for World<C> {
 }
 
 impl<C: Carrier, W: Output> Stage<WorldEvent, W> for MixedWorld<C> {
-    ghost replays = { ReplaysWith (HappensBy (mixed_kind (shown C.calls))) (shown_text Texts) (KeepsAll C.calls) };
+    ghost replays = { ReplaysMixed C.calls };
 
     fn replay(&mut self, events: Vec<WorldEvent>, writer: &mut W) -> Result<(), ReplayFault>
         requires { W.failed writer.old ≡ false }
         ensures part { result ≡ Err ReplayFault.OutOfMemory → (said : List ℕ) × Appends (W.contents writer.old) (W.contents writer.new) said }
-        ensures replayed { OnOk result ((said : List ℕ) × ReplaysWith (HappensBy (mixed_kind (shown C.calls))) (shown_text Texts) (KeepsAll C.calls) self.old events.items self.new said × Appends (W.contents writer.old) (W.contents writer.new) said) }
+        ensures replayed { OnOk result (Writes (ReplaysMixed C.calls) self.old events.items self.new (W.contents writer.old) (W.contents writer.new)) }
         ensures failed { TellsCannotWrite result (W.failed writer.new) }
     {
         let outcome = replay_mixed_events(self, events, Detail::Texts, writer);

@@ -1,20 +1,17 @@
 //! A whole session: the head of an input, and then its lines.
 
-ghost use Rattle.std.specs.Prelude.{◌≡◌, ◌≢◌, ◌+◌, ◌≤◌, ◌↔◌, [], codes, Err, IfErr, IfSome, List, None, OnOk, false, length, option_copied, true, ℕ};
+ghost use Rattle.std.specs.Prelude.{◌≡◌, ◌≢◌, ◌+◌, ◌≤◌, ◌↔◌, [], codes, Err, IfErr, IfSome, List, None, OnOk, false, length, true, ℕ};
 ghost use Rattle.std.specs.Io.KnownBytes.{Appends};
-ghost use Rattle.net_sim.specs.MixedWorlds.{absent_in};
+ghost use Rattle.net_sim.specs.Steps.{absent_in};
 ghost use Rattle.session.specs.Hearing.{hearing};
 ghost use Rattle.session.specs.Head.{IsHead};
 ghost use Rattle.session.specs.Session.{EndsEarly, IsSession, Serving, on, over};
 ghost use Rattle.session.specs.Turns.{Ends};
-ghost use Rattle.topology.specs.Topology.{hosts_of};
 
 use crate::answering::answer_lines;
 use crate::head::read_head;
 use crate::networks::Bare;
-use command_line::{
-    Input, MixedInput, ScriptFault, Source, read_input, read_mixed_input, subnet_of,
-};
+use command_line::{Input, ScriptFault, Source, read_input, subnet_of};
 use interface::{Carrier, HostAddr};
 use leader1822::PlainBoxes;
 use net_sim::{MixedWorld, StrangersFault, World};
@@ -23,30 +20,29 @@ use script::MAX_INPUT;
 use std::alloc::Global;
 use topology::{CarrierKind, Topology};
 
-/// Answers the lines of a script over the carrier that a topology names, with these of its hosts as strangers, if any are.
+/// Answers the lines of a script over the carrier that a topology names.
 ///
 /// Errors: as in [`answer_lines`].
 fn serve_on<R: Source, W: Output>(
     alloc: Global,
     network: &Topology,
-    strangers: Option<&[HostAddr]>,
     reader: &mut R,
     ahead: &mut Vec<u8>,
     heard: usize,
     writer: &mut W,
 ) -> Result<(), ScriptFault>
-    requires there { IfSome strangers (λ named. absent_in (hosts_of network.now) named.now ≡ None) }
     requires reads { R.failed reader.old ≡ false }
     requires more { R.ended reader.old ≡ false }
     requires writes { W.failed writer.old ≡ false }
     requires handed { W.flushed writer.old ≡ true }
     requires short { heard + length ahead.old.items ≤ MAX_INPUT }
-    ensures ends { Ends (on network.now (option_copied strangers.entry)) (hearing heard ahead.old.items (R.remaining reader.old)) (W.contents writer.old) (W.contents writer.new) result }
+    ensures ends { Ends (on network.now) (hearing heard ahead.old.items (R.remaining reader.old)) (W.contents writer.old) (W.contents writer.new) result }
     ensures kept { IfErr result (λ f. f ≢ ScriptFault.CannotWrite → f ≢ ScriptFault.OutOfMemory → W.flushed writer.new ≡ true) }
     ensures cannot_read { (result ≡ Err ScriptFault.CannotRead) ↔ (R.failed reader.new ≡ true) }
     ensures cannot_write { (result ≡ Err ScriptFault.CannotWrite) ↔ (W.failed writer.new ≡ true) }
 {
     let raw = network.is_raw();
+    let strangers = network.strangers();
     match network.carrier() {
         CarrierKind::Plain => {
             let hosts = network.hosts(alloc)?;
@@ -60,15 +56,15 @@ fn serve_on<R: Source, W: Output>(
     }
 }
 
-/// Answers the lines of a script over a carrier at its opening: among these strangers, if any are, else without host
-/// programs or with them.
+/// Answers the lines of a script over a carrier at its opening, without host programs or with them, where these hosts
+/// are strangers.
 ///
 /// Errors: as in [`answer_lines`].
 fn serve_over<C: Carrier, R: Source, W: Output>(
     alloc: Global,
     carrier: C,
     raw: bool,
-    strangers: Option<&[HostAddr]>,
+    strangers: &[HostAddr],
     reader: &mut R,
     ahead: &mut Vec<u8>,
     heard: usize,
@@ -76,30 +72,30 @@ fn serve_over<C: Carrier, R: Source, W: Output>(
 ) -> Result<(), ScriptFault>
     requires unused { (C.calls.seen carrier).log ≡ [] }
     requires running { (C.calls.seen carrier).stopped ≡ false }
-    requires there { IfSome strangers (λ named. absent_in (C.calls.seen carrier).hosts named.now ≡ None) }
+    requires there { absent_in (C.calls.seen carrier).hosts strangers.now ≡ None }
     requires reads { R.failed reader.old ≡ false }
     requires more { R.ended reader.old ≡ false }
     requires writes { W.failed writer.old ≡ false }
     requires handed { W.flushed writer.old ≡ true }
     requires short { heard + length ahead.old.items ≤ MAX_INPUT }
-    ensures ends { Ends (over C.calls carrier raw (option_copied strangers.entry)) (hearing heard ahead.old.items (R.remaining reader.old)) (W.contents writer.old) (W.contents writer.new) result }
+    ensures ends { Ends (over C.calls carrier raw strangers.now) (hearing heard ahead.old.items (R.remaining reader.old)) (W.contents writer.old) (W.contents writer.new) result }
     ensures kept { IfErr result (λ f. f ≢ ScriptFault.CannotWrite → f ≢ ScriptFault.OutOfMemory → W.flushed writer.new ≡ true) }
     ensures cannot_read { (result ≡ Err ScriptFault.CannotRead) ↔ (R.failed reader.new ≡ true) }
     ensures cannot_write { (result ≡ Err ScriptFault.CannotWrite) ↔ (W.failed writer.new ≡ true) }
 {
-    if let Some(strangers) = strangers {
+    if raw {
+        let mut bare = Bare { carrier };
+        answer_lines(alloc, &mut bare, false, reader, ahead, heard, writer)
+    } else if strangers.is_empty() {
+        let mut world = World::new(alloc, carrier)?;
+        answer_lines(alloc, &mut world, false, reader, ahead, heard, writer)
+    } else {
         let mut world = match MixedWorld::new(alloc, carrier, strangers) {
             Ok(world) => world,
             Err(StrangersFault::OutOfMemory) => return Err(ScriptFault::OutOfMemory),
             Err(StrangersFault::NoSuch(_)) => return Err(ScriptFault::BadTopology),
         };
         answer_lines(alloc, &mut world, true, reader, ahead, heard, writer)
-    } else if raw {
-        let mut bare = Bare { carrier };
-        answer_lines(alloc, &mut bare, false, reader, ahead, heard, writer)
-    } else {
-        let mut world = World::new(alloc, carrier)?;
-        answer_lines(alloc, &mut world, false, reader, ahead, heard, writer)
     }
 }
 
@@ -124,25 +120,8 @@ fn serve<R: Source, W: Output>(
     ensures cannot_read { (result ≡ Err ScriptFault.CannotRead) ↔ (R.failed reader.new ≡ true) }
     ensures cannot_write { (result ≡ Err ScriptFault.CannotWrite) ↔ (W.failed writer.new ≡ true) }
 {
-    match read_input(alloc, head) {
-        Ok(Input { network, .. }) => {
-            serve_on(alloc, &network, None, reader, ahead, head.len(), writer)
-        }
-        Err(ScriptFault::BadTopology) => {
-            let MixedInput { network, .. } = read_mixed_input(alloc, head)?;
-            let strangers = Some(network.strangers());
-            serve_on(
-                alloc,
-                network.network(),
-                strangers,
-                reader,
-                ahead,
-                head.len(),
-                writer,
-            )
-        }
-        Err(fault) => Err(fault),
-    }
+    let Input { network, .. } = read_input(alloc, head)?;
+    serve_on(alloc, &network, reader, ahead, head.len(), writer)
 }
 
 /// Runs a session: it reads a topology and the marker line `%`, hears the lines of a script to the end of the input,

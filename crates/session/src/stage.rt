@@ -3,7 +3,7 @@
 ghost use Rattle.std.specs.Prelude.{◌≡◌, [], Err, List, OnOk, false, ℕ};
 ghost use Rattle.std.specs.Io.KnownBytes.{Appends};
 ghost use Rattle.replay.specs.Failing.{TellsCannotWrite};
-ghost use Rattle.session.specs.Turns.{GoesOn};
+ghost use Rattle.session.specs.Turns.{GoesOn, Writes};
 
 use replay::{Output, ReplayFault};
 use script::reading::ScriptEvent;
@@ -19,7 +19,7 @@ pub trait Stage<E: ScriptEvent, W: Output> {
     fn replay(&mut self, events: Vec<E>, writer: &mut W) -> Result<(), ReplayFault>
         requires { W.failed writer.old ≡ false }
         ensures part { result ≡ Err ReplayFault.OutOfMemory → (said : List ℕ) × Appends (W.contents writer.old) (W.contents writer.new) said }
-        ensures replayed { OnOk result ((said : List ℕ) × replays self.old events.items self.new said × Appends (W.contents writer.old) (W.contents writer.new) said) }
+        ensures replayed { OnOk result (Writes replays self.old events.items self.new (W.contents writer.old) (W.contents writer.new)) }
         ensures failed { TellsCannotWrite result (W.failed writer.new) };
 
     /// Proves that no event leads to no change. It is there for the proof only.

@@ -1,6 +1,9 @@
 -- How a replay that words ask for ends: where memory runs out before anything is replayed, and by what `run_script` ensures.
-use Rattle.simulator.proofs.Common.{◌≡◌, ◌⊎◌, inl, inr, ℕ, Bool, true, false, List, Option, Some, None, Result, Ok, Err, IfSome, MatchResult, OnOk, codes, refl, sym, subst, Appends, Keeps, EndsTask, Sides, ScriptFault, Options, detail_of, IsEitherFault, IsEitherInput, RanEither, ReplaysEither, StopsEither, EndsReplay}
-use Rattle.simulator.specs.Program.{HandsOn, Replayed}
+use Rattle.simulator.proofs.Common.{Appends, Keeps, ScriptFault, Options, detail_of}
+use Rattle.std.proofs.Common.{◌≡◌, ◌⊎◌, inl, inr, ℕ, Bool, true, false, List, Option, Some, None, Result, Ok, Err, IfSome, MatchResult, OnOk, codes, refl, sym, subst}
+use Rattle.simulator.specs.Program.{EndsTask, Sides, EndsReplay, HandsOn, Replayed}
+use Rattle.command_line.specs.Input.{IsScriptFault, IsSomeInput}
+use Rattle.command_line.specs.Replayed.{Ran, ReplaysInput, StopsInput}
 use Rattle.command_line.specs.Reading.{ReadsFirst}
 use Rattle.command_line.proofs.lemmas.{reads_none}
 use Rattle.command_line.specs.declared.fault.ScriptFault.TheVariants as script
@@ -29,14 +32,14 @@ no_memory (Some options) s unread same = (
   record {
     replayed = tt;
     read = λ whole. if_known s.input
-        (λ octets. MatchResult ends_in_memory (λ done. IsEitherInput octets) (IsEitherFault octets)) (λ octets. tt);
+        (λ octets. MatchResult ends_in_memory (λ done. IsSomeInput octets) (IsScriptFault octets)) (λ octets. tt);
     options_read = λ e. cc;
     reads = subst (λ (left : Option (List ℕ)). ReadsFirst s.input left) (sym unread) (reads_none s.input);
     reads_all = λ read kept. absurd (kept refl);
     ran_in_part = λ e. inl same;
     nothing = λ on e. same;
     first_part = λ e. if_known s.input
-        (λ octets. Keeps s.before s.after ⊎ StopsEither (detail_of options.texts) octets s.before s.after)
+        (λ octets. Keeps s.before s.after ⊎ StopsInput (detail_of options.texts) octets s.before s.after)
         (λ octets. inl same);
   },
 )
@@ -44,9 +47,9 @@ no_memory (Some options) s unread same = (
 -- what was read only, or replayed
 pub replayed_if : (check : Bool) (options : Options) (s : Sides) (r : Result (Unit {0}) ScriptFault)
     → (check ≡ true → OnOk r (Appends s.before s.after (codes "ok\n")))
-    → (check ≡ false → OnOk r (RanEither options.book (detail_of options.texts) s.before s.after))
+    → (check ≡ false → OnOk r (Ran options.book (detail_of options.texts) s.before s.after))
     → (check ≡ false → OnOk r
-    (IfSome s.input (λ octets. ReplaysEither options.book (detail_of options.texts) octets s.before s.after)))
+    (IfSome s.input (λ octets. ReplaysInput options.book (detail_of options.texts) octets s.before s.after)))
     → OnOk r (Replayed check options s)
 replayed_if true options s r checked ran known = checked refl
 replayed_if false options s (Ok done) checked ran known = (ran refl, known refl)

@@ -1,15 +1,13 @@
 -- What is written is that of the input which was read.
-use Rattle.simulator.proofs.Common.{◌≡◌, inl, inr, ℕ, Bool, true, false, List, [], ◌∷◌, ◌++◌, Option, Some, Ok, Err, codes}
-use Rattle.simulator.proofs.Common.{refl, subst, sym, ◌∙◌, ◌⊎◌, EndsReplay, detail_of}
+use Rattle.simulator.proofs.Common.{detail_of, Options, Verdict}
+use Rattle.script.specs.Input.{IsParted}
+use Rattle.std.proofs.Common.{◌≡◌, inl, inr, ℕ, Bool, true, false, List, [], ◌∷◌, ◌++◌, Option, Some, Ok, Err, codes, refl, subst, sym, ◌∙◌, ◌⊎◌}
+use Rattle.simulator.specs.Program.{EndsReplay, EndsAudit, EndsTrace, Replayed, sides}
 use Rattle.command_line.proofs.lemmas.{said_kept}
 use Rattle.command_line.specs.Audits.{IsKeptLog, kept, verdict_text}
 use Rattle.command_line.specs.Laws.{FirstPart, OneOutput}
 use Rattle.command_line.specs.declared.fault.ScriptFault.TheVariants as script
-use Rattle.command_line.specs.declared.options.Options.{Options}
-use Rattle.command_line.specs.declared.verdict.Verdict.{Verdict}
-use Rattle.script.specs.Input.{IsParted}
-use Rattle.simulator.specs.Program.{EndsAudit, EndsTrace, Replayed, sides}
-use Rattle.simulator.proofs.Traces.EitherTrace.{either_front}
+use Rattle.simulator.proofs.Traces.AmongTrace.{first_of_trace}
 
 pub same_replay : OneOutput → (check : Bool) (options : Options) (input before after other : List ℕ)
     (left rest : Option (List ℕ)) (unread unheard : Bool)
@@ -37,7 +35,7 @@ pub trace_part : (input before part whole : List ℕ) (left rest : Option (List 
     → (part ≡ before) ⊎ ((more : List ℕ) × (whole ≡ part ++ more))
 trace_part input before part whole left rest unread unheard ends done = elim (ends.first_part refl) [
   | inl kept ↦ inl kept
-  | inr stops ↦ inr (either_front input before part whole stops done.traced)
+  | inr stops ↦ inr (first_of_trace input before part whole stops done.traced)
 ]
 
 -- ---- no input

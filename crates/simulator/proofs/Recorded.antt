@@ -1,45 +1,44 @@
 -- What a replay prints is what its trace has as printed.
-use Rattle.simulator.proofs.Common.{◌≡◌, inl, inr, ℕ, ◌+◌, Bool, true, false, List, [], ◌∷◌, ◌++◌, Some, codes, map, arith, refl, sym, ap, ap₂, subst, ◌∙◌, Calls, Crossing, plain_calls, shown, WorldState, opening_world, in_turn_once, text_of, AreSettled, Sizes, ended_line, RawEvent, subnet_calls, subnet_inside, TopologyFields, CarrierKind, object, opening_line, Inside, TellsEvent, numbered_from, plain_inside, Spot, happens_once, shown_settled, Happens, HappensInCalm, WorldEvent, opening_text, world_line, TellsIn, TellsInCalm, TellsOne, TellsRound, change_of, first_rounds, state_of, plain_of, subnet_of, Raw, World, ReplaysOver, book_text, TracesAll, TracesFrom, TracesInput, TracesOver, WorldTracesFrom, asked_count, length-map, Host, IsEvent, members_of, AllParts, AsksFor, subnet_settled, plain_settled, suc, length, flat_map, Shown, Asked, OfElement, OfWorld, PrintsTrace, Recorded, printed_lines, recorded_text, OneInput, input_once}
-use Rattle.std.proofs.Common.{zip}
-use Rattle.std.proofs.lemmas.List.{length-append, map-append}
+use Rattle.simulator.proofs.Common.{Calls, Crossing, plain_calls, shown, WorldState, opening_world, AreSettled, Sizes, ended_line, RawEvent, subnet_calls, subnet_inside, CarrierKind, object, opening_line, Spot, happens_once, shown_settled, WorldEvent, opening_text, world_line, Raw, World, AsksFor, Asked, TracesInput, are_some, members_of, AllParts}
+use Rattle.std.proofs.Common.{◌≡◌, inl, inr, ℕ, ◌+◌, Bool, true, false, List, [], ◌∷◌, ◌++◌, Some, codes, map, arith, refl, sym, ap, ap₂, subst, ◌∙◌, suc, length, zip, ◌≤◌, zero}
+use Rattle.replay.proofs.lemmas.{in_turn_once, OneReplay, replays_once}
+use Rattle.replay.specs.InTurn.{text_of, InTurn}
+use Rattle.topology.specs.Topology.{TopologyFields, IsTopology, site_of, sites_of}
+use Rattle.trace.specs.Traces.{Inside, TellsEvent, numbered_from, plain_inside, SaysAll, TellsElement, change_text}
+use Rattle.world_replay.specs.Replay.{Happens, HappensInCalm, Replays, rounds_of}
+use Rattle.world_trace.specs.Traces.{TellsIn, TellsInCalm, TellsOne, TellsRound, change_of, first_rounds, state_of}
+use Rattle.command_line.specs.Carriers.{plain_of, subnet_of, ends_of}
+use Rattle.command_line.specs.Replayed.{ReplaysOver, book_text, ReplaysFrom, ReplaysInput, ReplaysOn, ShowsFrom, ShowsIn, WorldShowsFrom, WritesAll, WritesWorld}
+use Rattle.simulator.specs.Traced.{TracesAll, TracesFrom, TracesIn, TracesOver, WorldTracesFrom, asked_count}
+use Rattle.std.proofs.lemmas.Bool.{false≢true}
+use Rattle.std.proofs.lemmas.List.{length-map, length-append, map-append, append-nil}
+use Rattle.interface.specs.Host.{Host, most_imps}
+use Rattle.script.specs.Spelling.{IsEvent}
+use Rattle.subnet_trace.proofs.lemmas.{subnet_settled, Holds, event_holds, opening_holds, says}
+use Rattle.trace.proofs.lemmas.{plain_settled, told}
+use Rattle.std.specs.List.{flat_map, All, range_with_len}
+use Rattle.world_replay.specs.Output.{Shown, shown_text}
+use Rattle.simulator.specs.Recorded.{OfElement, OfWorld, PrintsTrace, Recorded, printed_lines, recorded_text, told_from, told_in, told_lines, told_over}
+use Rattle.command_line.proofs.lemmas.{OneInput, input_once, no_lives, same_hosts}
 use Rattle.promise.specs.declared.life.Life.{Life}
-use Rattle.replay.proofs.lemmas.{OneReplay}
-use Rattle.replay.proofs.lemmas.{replays_once}
-use Rattle.command_line.specs.Carriers.{ends_of}
-use Rattle.command_line.specs.Replayed.{ReplaysFrom, ReplaysInput, ReplaysOn}
-use Rattle.std.proofs.Common.{◌≤◌}
 use Rattle.std.proofs.lemmas.List.Elements.{All-head, All-tail}
-use Rattle.std.specs.List.{All, range_with_len}
-use Rattle.std.proofs.Common.{zero}
 use Rattle.std.proofs.lemmas.Grind.{flat_map-append}
-use Rattle.std.proofs.lemmas.List.{append-nil}
 use Rattle.std.proofs.lemmas.List.Folds.{flat_map-map}
-use Rattle.replay.specs.InTurn.{InTurn}
 use Rattle.replay.specs.Output as raw
 use Rattle.replay.specs.Replay as of_network
-use Rattle.interface.specs.Host.{most_imps}
 use Rattle.std.proofs.lemmas.List.FromFn.{length-range_with_len}
 use Rattle.subnet.specs.Calls.{running}
 use Rattle.subnet.specs.Net.{Net}
 use Rattle.subnet.specs.Opening.{opening_subnet}
-use Rattle.subnet_trace.proofs.lemmas.{Holds, event_holds, opening_holds, says}
 use Rattle.topology.proofs.lemmas.{described_keeps, hosts_listed}
-use Rattle.topology.specs.Topology.{IsTopology, site_of, sites_of}
 use Rattle.topology.specs.declared.network.CarrierKind.TheVariants as kind
-use Rattle.trace.proofs.lemmas.{told}
 use Rattle.trace.specs.Elements.{events_of}
-use Rattle.trace.specs.Traces.{SaysAll, TellsElement, change_text}
 use Rattle.trace.specs.declared.element.Element.{Element}
 use Rattle.world_replay.proofs.lemmas.Accounts.{AreParts, ShowsAs, round_as}
 use Rattle.world_replay.proofs.lemmas.CalmRounds.{calm_rounds}
 use Rattle.world_replay.proofs.lemmas.{round_calm}
-use Rattle.world_replay.specs.Output.{shown_text}
-use Rattle.world_replay.specs.Replay.{Replays, rounds_of}
 use Rattle.world_script.specs.declared.event.WorldEvent.TheVariants as worlds
-use Rattle.simulator.specs.Recorded.{told_from, told_lines, told_over}
 use Rattle.simulator.specs.WorkedSides.{starts}
-use Rattle.command_line.proofs.lemmas.{no_lives}
-use Rattle.command_line.proofs.lemmas.{same_hosts}
 
 -- ---- lines of a trace that have these lines as printed
 
@@ -208,15 +207,15 @@ abbrev AreValid : Asked → Type 0
 AreValid (Raw events) = All IsEvent events
 AreValid (World events) = Unit {0}
 
-asked_valid : (raw : Bool) (events : Asked) (lines : List (List ℕ)) → AsksFor raw events lines → AreValid events
-asked_valid true (Raw events) lines asked = asked.meant
-asked_valid true (World events) lines asked = tt
-asked_valid false (Raw events) lines asked = absurd asked
-asked_valid false (World events) lines asked = tt
+asked_valid : (raw among : Bool) (events : Asked) (lines : List (List ℕ)) → AsksFor raw among events lines → AreValid events
+asked_valid true among (Raw events) lines asked = asked.meant
+asked_valid true among (World events) lines asked = tt
+asked_valid false among (Raw events) lines asked = absurd asked
+asked_valid false among (World events) lines asked = tt
 
 raw_from : {C : Type 0} (calls : Calls C) (inside : Inside C) (Holds : C → Type 0) → AreSettled calls → AreSaid calls inside Holds → (t : TopologyFields) (opening : C) (lines : List ℕ) (events : List RawEvent) (book : Bool) (out trace : List ℕ)
     → All IsEvent events → Holds opening → length lines ≡ length events →
-    ReplaysFrom calls opening book Sizes (Raw events) (Some []) (Some out) →
+    WritesAll Sizes (ShowsFrom calls opening events) (Some []) (Some out) →
     (k : TracesFrom calls inside t opening (zip lines events) (Some []) (Some trace)) →
     PrintsTrace book out trace k.traced.shown
 unfolding raw_texts
@@ -236,7 +235,7 @@ raw_from {C} calls inside Holds settled each t opening lines events book out tra
     }
 
 world_from : {C : Type 0} (calls : Calls C) (members : C → AllParts) → AreSettled calls → (t : TopologyFields) (opening : C) (lines : List ℕ) (events : List WorldEvent) (book : Bool) (out trace : List ℕ)
-    → length lines ≡ length events → ReplaysFrom calls opening book Sizes (World events) (Some []) (Some out) →
+    → length lines ≡ length events → WritesWorld book Sizes (WorldShowsFrom calls opening events) (Some []) (Some out) →
     (k : WorldTracesFrom (shown calls) members t opening (zip lines events) (Some []) (Some trace)) →
     PrintsTrace book out trace k.traced.shown
 unfolding texts
@@ -254,13 +253,20 @@ world_from {C} calls members settled t opening lines events book out trace fit h
       printed = h.written ∙ ap (λ (xs : List ℕ). xs ++ (book_text book h.lives ++ codes "end\n")) (sym (flat_map-map ended_line (shown_text Sizes) h.shown) ∙ ap in_lines prints);
     }
 
+in_from : {C : Type 0} (among : Bool) (calls : Calls C) (members : C → AllParts) → AreSettled calls → (t : TopologyFields) (strangers : List Host) (opening : C) (lines : List ℕ) (events : List WorldEvent) (book : Bool) (out trace : List ℕ)
+    → among ≡ false → length lines ≡ length events → WritesWorld book Sizes (ShowsIn among calls strangers opening events) (Some []) (Some out) →
+    (k : TracesIn among (shown calls) members t opening (zip lines events) (Some []) (Some trace)) →
+    PrintsTrace book out trace (told_in among (shown calls) members t opening (zip lines events) (Some []) (Some trace) k)
+in_from true calls members settled t strangers opening lines events book out trace none fit h k = absurd (false≢true (sym none))
+in_from false calls members settled t strangers opening lines events book out trace none fit h k = world_from calls members settled t opening lines events book out trace fit h k
+
 all_from : {C : Type 0} (calls : Calls C) (inside : Inside C) (Holds : C → Type 0) → AreSettled calls → AreSaid calls inside Holds → (t : TopologyFields) (opening : C) (lines : List ℕ) (events : Asked) (book : Bool) (out trace : List ℕ)
-    → AreValid events → Holds opening → length lines ≡ asked_count events →
-    ReplaysFrom calls opening book Sizes events (Some []) (Some out) →
+    → are_some t.strangers ≡ false → AreValid events → Holds opening → length lines ≡ asked_count events →
+    ReplaysFrom calls t.strangers opening book Sizes events (Some []) (Some out) →
     (k : TracesAll calls inside t opening lines events (Some []) (Some trace)) →
     PrintsTrace book out trace (told_from calls inside t opening lines events (Some []) (Some trace) k)
-all_from calls inside Holds settled each t opening lines (Raw events) book out trace valid holds fit h k = raw_from calls inside Holds settled each t opening lines events book out trace valid holds fit h k
-all_from calls inside Holds settled each t opening lines (World events) book out trace valid holds fit h k = world_from calls inside.members settled t opening lines events book out trace fit h k
+all_from calls inside Holds settled each t opening lines (Raw events) book out trace none valid holds fit h k = raw_from calls inside Holds settled each t opening lines events book out trace valid holds fit h k
+all_from calls inside Holds settled each t opening lines (World events) book out trace none valid holds fit h k = in_from (are_some t.strangers) calls inside.members settled t t.strangers opening lines events book out trace none fit h k
 
 plain_said : AreSaid plain_calls plain_inside (λ b. Unit {0})
 plain_said = record { says = λ spot old new other e lines prints holds t h. told old new other spot e lines prints t h; kept = λ old new e prints valid holds h. tt }
@@ -277,23 +283,23 @@ opening_of t keeps =
     let few : length (sites_of t) ≤ most_imps + 1 = omega (arith, length-map (range_with_len 0 (most_imps + 1)) (site_of t.imps), length-range_with_len 0 (most_imps + 1)) in
     subst (λ (hosts : List Host). Holds (opening_subnet hosts (sites_of t) (ends_of t.lines)) (running (opening_subnet hosts (sites_of t) (ends_of t.lines)))) (sym (hosts_listed t keeps ∙ same_hosts 0 (sites_of t))) (opening_holds (sites_of t) (ends_of t.lines) few)
 
-over_from : (carrier : CarrierKind) (t : TopologyFields) (lines : List ℕ) (events : Asked) (book : Bool) (out trace : List ℕ) → IsTopology t → AreValid events → length lines ≡ asked_count events
+over_from : (carrier : CarrierKind) (t : TopologyFields) (lines : List ℕ) (events : Asked) (book : Bool) (out trace : List ℕ) → IsTopology t → are_some t.strangers ≡ false → AreValid events → length lines ≡ asked_count events
     → ReplaysOver carrier t book Sizes events (Some []) (Some out) →
     (k : TracesOver carrier t lines events (Some []) (Some trace)) →
     PrintsTrace book out trace (told_over carrier t lines events (Some []) (Some trace) k)
-over_from kind.Plain t lines events book out trace keeps valid fit h k = all_from plain_calls plain_inside (λ b. Unit {0}) plain_settled plain_said t (plain_of t) lines events book out trace valid tt fit h k
-over_from kind.Subnet t lines events book out trace keeps valid fit h k =
-    all_from subnet_calls subnet_inside (Holds (subnet_of t).net) subnet_settled (subnet_said (subnet_of t).net) t (subnet_of t) lines events book out trace valid (opening_of t keeps) fit h k
+over_from kind.Plain t lines events book out trace keeps none valid fit h k = all_from plain_calls plain_inside (λ b. Unit {0}) plain_settled plain_said t (plain_of t) lines events book out trace none valid tt fit h k
+over_from kind.Subnet t lines events book out trace keeps none valid fit h k =
+    all_from subnet_calls subnet_inside (Holds (subnet_of t).net) subnet_settled (subnet_said (subnet_of t).net) t (subnet_of t) lines events book out trace none valid (opening_of t keeps) fit h k
 
 pub prints_trace : (book : Bool) (input out trace : List ℕ) → ReplaysInput book Sizes input (Some []) (Some out) →
-    (k : TracesInput input (Some []) (Some trace)) →
+    (k : TracesInput input (Some []) (Some trace)) → are_some k.network.strangers ≡ false →
     PrintsTrace book out trace (told_lines input (Some []) (Some trace) k)
-prints_trace book input out trace h k =
+prints_trace book input out trace h k none =
     let same : OneInput h.network k.network h.events k.events = input_once input h.network k.network h.events k.events h.input k.input.input in
     let moved : ReplaysOn k.network book Sizes k.events (Some []) (Some out) =
     subst (λ (network : TopologyFields). ReplaysOn network book Sizes k.events (Some []) (Some out)) same.same_network
     (subst (λ (events : Asked). ReplaysOn h.network book Sizes events (Some []) (Some out)) same.same_events h.replayed) in
-    over_from k.network.carrier k.network k.lines k.events book out trace (described_keeps k.input.input.document k.network k.input.input.described) (asked_valid k.network.raw k.events _ k.input.input.asked) k.input.fits moved k.traced
+    over_from k.network.carrier k.network k.lines k.events book out trace (described_keeps k.input.input.document k.network k.input.input.described) none (asked_valid k.network.raw (are_some k.network.strangers) k.events _ k.input.input.asked) k.input.fits moved k.traced
 
 -- ---- outputs that a trace does not have
 

@@ -1,8 +1,8 @@
--- What a replay writes as a trace: without strangers (Traced), with them (MixedTraced); that an input determines it,
--- without strangers (OneTrace) and of either kind (EitherTrace); and that an output leaves out no line that its trace
--- has as printed (LeftOut).
-pub mod EitherTrace
+-- What a replay writes as a trace: without strangers (Traced), with them (AmongTraced); that its events determine it
+-- without strangers (OneTrace), and an input in any network (AmongTrace); and that an output leaves out no line that its
+-- trace has as printed (LeftOut).
+pub mod AmongTrace
+pub mod AmongTraced
 pub mod LeftOut
-pub mod MixedTraced
 pub mod OneTrace
 pub mod Traced

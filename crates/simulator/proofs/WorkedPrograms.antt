@@ -1,15 +1,15 @@
 -- Ends that the program does not have.
-use Rattle.simulator.proofs.Common.{◌≡◌, inl, inr, ℕ, true, false, List, [], ◌∷◌, ◌++◌, Option, Some, None, Result, Ok, Err, codes, map, refl, sym, ap, ◌∙◌, Appends, Keeps, text_of, TopologyFields, CarrierKind, Raw, World, plain_calls, subnet_calls, EndsTask, Sides, TracesOver, ScriptFault, detail_of, ReplaysOver, MixedFields, WorldEvent, RanEither, EndsReplay, Asked, MixedTracesOver, TracedEither}
+use Rattle.simulator.proofs.Common.{Appends, Keeps, text_of, TopologyFields, CarrierKind, Raw, World, Asked, plain_calls, subnet_calls, ScriptFault, detail_of, AllParts, Calls, Host, WorldEvent, Verdict, are_some, plain_of, shown, subnet_inside, subnet_of}
+use Rattle.std.proofs.Common.{◌≡◌, inl, inr, ℕ, Bool, true, false, zip, List, [], ◌∷◌, ◌++◌, Option, Some, None, Result, Ok, Err, codes, map, refl, sym, ap, ◌∙◌}
+use Rattle.simulator.specs.Program.{EndsTask, Sides, EndsReplay, Closes, LeavesUntouched, audited_as, finished_as}
+use Rattle.simulator.specs.Traced.{Traced, TracesIn, TracesOver}
+use Rattle.command_line.specs.Replayed.{Ran, ReplaysOver}
 use Rattle.std.proofs.lemmas.Bool.{false≢true}
-use Rattle.book_log.specs.Log.{log_text}
-use Rattle.command_line.specs.Logs.{LogsOver, raw_book, world_book}
+use Rattle.book_log.specs.Log.{log_text, Book, handed_line, life_line, log_lines, logged_line, strangers_text, text_of_lines}
+use Rattle.command_line.specs.Logs.{Logged, LogsIn, LogsOver, raw_book, world_book}
 use Rattle.command_line.specs.declared.auditing.AuditFault.{AuditFault}
-use Rattle.command_line.specs.declared.verdict.Verdict.{Verdict}
-use Rattle.command_line.specs.Mixed.{MixedReplaysOver}
-use Rattle.book_log.specs.Log.{Book, handed_line, life_line, log_lines, logged_line, strangers_text, text_of_lines}
 use Rattle.topology.specs.declared.network.CarrierKind.TheVariants as kind
-use Rattle.command_line.specs.MixedLogs.{LoggedEither, MixedLogsOver}
-use Rattle.simulator.specs.Program.{Closes, LeavesUntouched, audited_as, finished_as}
+use Rattle.trace.specs.Traces.{plain_inside}
 use Rattle.simulator.specs.WorkedSides.{Never, drained, no_options, only_check, out_of_memory, unread, wrote}
 use Rattle.command_line.specs.declared.auditing.AuditFault.TheVariants as log
 use Rattle.command_line.specs.declared.fault.ScriptFault.TheVariants as script
@@ -81,30 +81,27 @@ no_end (x ∷ a) b c last e = cc
 some_log : (b : Book) → [] ≡ log_text b → ⊥
 some_log b e = no_end (map logged_line b.crossings) (map life_line b.lives) (map handed_line b.handed) (codes "end") (none_lines (log_lines b) (sym e))
 
-nothing_logged : (carrier : CarrierKind) (t : TopologyFields) (events : Asked) →
-    LogsOver carrier t events (Some []) (Some []) → ⊥
-nothing_logged kind.Plain t (Raw events) h = some_log (raw_book (plain_calls.seen h.last).log) h.written
-nothing_logged kind.Plain t (World events) h = some_log (world_book h.last.kept) h.written
-nothing_logged kind.Subnet t (Raw events) h = some_log (raw_book (subnet_calls.seen h.last).log) h.written
-nothing_logged kind.Subnet t (World events) h = some_log (world_book h.last.kept) h.written
-
 -- nor is it nothing after the lines of strangers
 no_rest : (front rest : List ℕ) → [] ≡ front ++ rest → [] ≡ rest
 no_rest [] rest e = e
 no_rest (x ∷ front) rest e = cc
 
-nothing_logged_among : (carrier : CarrierKind) (t : MixedFields) (events : List WorldEvent)
-    → MixedLogsOver carrier t events (Some []) (Some []) → ⊥
-nothing_logged_among kind.Plain t events h =
+nothing_in : {C : Type 0} (among : Bool) (calls : Calls C) (strangers : List Host) (opening : C) (events : List WorldEvent) →
+    LogsIn among calls strangers opening events (Some []) (Some []) → ⊥
+nothing_in true calls strangers opening events h =
     let b : Book = world_book h.last.kept in
-    some_log b (no_rest (strangers_text t.strangers) (log_text b) h.written)
-nothing_logged_among kind.Subnet t events h =
-    let b : Book = world_book h.last.kept in
-    some_log b (no_rest (strangers_text t.strangers) (log_text b) h.written)
+    some_log b (no_rest (strangers_text strangers) (log_text b) h.written)
+nothing_in false calls strangers opening events h = some_log (world_book h.last.kept) h.written
 
-none_logged : LoggedEither (Some []) (Some []) → ⊥
-none_logged (inl h) = nothing_logged h.network.carrier h.network h.events h.logged
-none_logged (inr h) = nothing_logged_among h.network.network.carrier h.network h.events h.logged
+nothing_logged : (carrier : CarrierKind) (t : TopologyFields) (events : Asked) →
+    LogsOver carrier t events (Some []) (Some []) → ⊥
+nothing_logged kind.Plain t (Raw events) h = some_log (raw_book (plain_calls.seen h.last).log) h.written
+nothing_logged kind.Plain t (World events) h = nothing_in (are_some t.strangers) plain_calls t.strangers (plain_of t) events h
+nothing_logged kind.Subnet t (Raw events) h = some_log (raw_book (subnet_calls.seen h.last).log) h.written
+nothing_logged kind.Subnet t (World events) h = nothing_in (are_some t.strangers) subnet_calls t.strangers (subnet_of t) events h
+
+none_logged : Logged (Some []) (Some []) → ⊥
+none_logged h = nothing_logged h.network.carrier h.network h.events h.logged
 
 pub no_log : Never task.Log (wrote []) (Ok did.Written)
 no_log o (Ok done, is, ends) = none_logged ends.ran
@@ -117,30 +114,27 @@ nothing_written shown first others None is h k = h
 nothing_written shown first others (Some ys) is h k =
     some_lines first others (ap (λ (lines : List (List ℕ)). text_of_lines lines) (sym is) ∙ sym h ∙ sym k)
 
+nothing_traced_in : {C : Type 0} (among : Bool) (calls : Calls C) (members : C → AllParts) (t : TopologyFields) (opening : C)
+    (events : List (ℕ × WorldEvent)) (written : Option (List ℕ)) → TracesIn among calls members t opening events (Some []) written
+    → Keeps written (Some []) → ⊥
+nothing_traced_in true calls members t opening events written h k =
+    nothing_written h.traced.shown _ h.traced.is_shown.0 written h.traced.is_shown.1 h.traced.written k
+nothing_traced_in false calls members t opening events written h k =
+    nothing_written h.traced.shown _ h.traced.is_shown.0 written h.traced.is_shown.1 h.traced.written k
+
 nothing_traced : (carrier : CarrierKind) (t : TopologyFields) (numbers : List ℕ) (events : Asked)
     (written : Option (List ℕ)) → TracesOver carrier t numbers events (Some []) written → Keeps written (Some []) → ⊥
 nothing_traced kind.Plain t numbers (Raw events) written h k =
     nothing_written h.traced.shown _ h.traced.is_shown.0 written h.traced.is_shown.1 h.traced.written k
 nothing_traced kind.Plain t numbers (World events) written h k =
-    nothing_written h.traced.shown _ h.traced.is_shown.0 written h.traced.is_shown.1 h.traced.written k
+    nothing_traced_in (are_some t.strangers) (shown plain_calls) plain_inside.members t (plain_of t) (zip numbers events) written h k
 nothing_traced kind.Subnet t numbers (Raw events) written h k =
     nothing_written h.traced.shown _ h.traced.is_shown.0 written h.traced.is_shown.1 h.traced.written k
 nothing_traced kind.Subnet t numbers (World events) written h k =
-    nothing_written h.traced.shown _ h.traced.is_shown.0 written h.traced.is_shown.1 h.traced.written k
+    nothing_traced_in (are_some t.strangers) (shown subnet_calls) subnet_inside.members t (subnet_of t) (zip numbers events) written h k
 
-nothing_traced_among : (carrier : CarrierKind) (t : MixedFields) (numbers : List ℕ) (events : List WorldEvent)
-    (written : Option (List ℕ)) → MixedTracesOver carrier t numbers events (Some []) written
-    → Keeps written (Some []) → ⊥
-nothing_traced_among kind.Plain t numbers events written h k =
-    nothing_written h.traced.shown _ h.traced.is_shown.0 written h.traced.is_shown.1 h.traced.written k
-nothing_traced_among kind.Subnet t numbers events written h k =
-    nothing_written h.traced.shown _ h.traced.is_shown.0 written h.traced.is_shown.1 h.traced.written k
-
-none_traced : (written : Option (List ℕ)) → TracedEither (Some []) written → Keeps written (Some []) → ⊥
-none_traced written (inl h) kept =
-    nothing_traced h.network.carrier h.network h.lines h.events written h.traced kept
-none_traced written (inr h) kept =
-    nothing_traced_among h.network.network.carrier h.network h.lines h.events written h.traced kept
+none_traced : (written : Option (List ℕ)) → Traced (Some []) written → Keeps written (Some []) → ⊥
+none_traced written h kept = nothing_traced h.network.carrier h.network h.lines h.events written h.traced kept
 
 pub no_trace : Never task.Trace (wrote []) (Ok did.Written)
 no_trace o (Ok done, written, inl (is, kept), ends) = none_traced written ends.ran kept
@@ -209,14 +203,8 @@ nothing_replayed kind.Plain t (World events) written h k = nothing_ended _ writt
 nothing_replayed kind.Subnet t (Raw events) written h k = nothing_ended _ written h.written k
 nothing_replayed kind.Subnet t (World events) written h k = nothing_ended _ written h.written k
 
-nothing_among : (carrier : CarrierKind) (t : MixedFields) (events : List WorldEvent) (written : Option (List ℕ)) →
-    MixedReplaysOver carrier t false (detail_of false) events (Some []) written → Keeps written (Some []) → ⊥
-nothing_among kind.Plain t events written h k = nothing_ended _ written h.written k
-nothing_among kind.Subnet t events written h k = nothing_ended _ written h.written k
-
-nothing_ran : (written : Option (List ℕ)) → RanEither false (detail_of false) (Some []) written → Keeps written (Some []) → ⊥
-nothing_ran written (inl h) k = nothing_replayed h.network.carrier h.network h.events written h.replayed k
-nothing_ran written (inr h) k = nothing_among h.network.network.carrier h.network h.events written h.replayed k
+nothing_ran : (written : Option (List ℕ)) → Ran false (detail_of false) (Some []) written → Keeps written (Some []) → ⊥
+nothing_ran written h k = nothing_replayed h.network.carrier h.network h.events written h.replayed k
 
 pub no_output : EndsTask None (Some no_options) (wrote []) (Ok did.Written) → ⊥
 no_output (Ok done, written, inl (is, kept), ends) = nothing_ran written ends.replayed.0 kept

@@ -1,5 +1,6 @@
 -- Ends that a session does not have.
-use Rattle.simulator.proofs.Common.{◌≡◌, ◌++◌, ◌∙◌, ◌∷◌, Appends, Err, Keeps, List, None, Ok, Option, Some, [], ap, codes, inl, inr, parted_once, refl, subst, sym, ℕ}
+use Rattle.simulator.proofs.Common.{◌≡◌, ◌∙◌, Appends, Err, Keeps, List, ap, inr, parted_once, subst, ℕ}
+use Rattle.std.proofs.Common.{◌++◌, ◌∷◌, None, Ok, Option, Some, [], codes, inl, refl, sym}
 use Rattle.std.proofs.lemmas.List.{append_cancel_right}
 use Rattle.command_line.specs.declared.fault.ScriptFault.TheVariants as script
 use Rattle.command_line.specs.declared.options.Task.TheVariants as task

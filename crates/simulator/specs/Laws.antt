@@ -2,27 +2,27 @@
 use Rattle.std.specs.Prelude.{Bool, Err, List, Ok, Option, Some, codes, false, [], ◌∷◌, ℕ, ◌++◌, ◌≡◌, ◌⊎◌}
 use Rattle.replay.specs.declared.print.Detail.TheVariants.{Sizes}
 use Rattle.command_line.specs.Audits.{IsKeptLog, kept}
+use Rattle.command_line.specs.Events.{are_some}
 use Rattle.command_line.specs.Replayed.{ReplaysInput}
 use Rattle.command_line.specs.declared.fault.ScriptFault.TheVariants as script
 use Rattle.command_line.specs.declared.options.Options.{Options}
 use Rattle.command_line.specs.declared.verdict.Verdict.{Verdict}
-use Rattle.simulator.specs.MixedTraced.{TraceStopsEither, TracesEither}
 use Rattle.simulator.specs.Program.{EndsAudit, EndsLog, EndsReplay, EndsTrace, sides}
 use Rattle.simulator.specs.Recorded.{PrintsTrace, told_lines}
-use Rattle.simulator.specs.Traced.{TracesInput}
+use Rattle.simulator.specs.Traced.{TraceStops, TracesInput}
 
 -- The input determines its trace, with strangers or without. What was written before memory ran out is a prefix of the
--- whole trace. The lines of a plain output are those that its trace has as printed, in turn.
+-- whole trace. Without strangers the lines of a plain output are those that its trace has as printed, in turn.
 pub record OneTrace : Type 0 where
   pub whole :
-      (input before after other : List ℕ) → TracesEither input (Some before) (Some after) →
-      TracesEither input (Some before) (Some other) → after ≡ other
+      (input before after other : List ℕ) → TracesInput input (Some before) (Some after) →
+      TracesInput input (Some before) (Some other) → after ≡ other
   pub part :
-      (input before part whole : List ℕ) → TraceStopsEither input (Some before) (Some part) →
-      TracesEither input (Some before) (Some whole) → (rest : List ℕ) × (whole ≡ part ++ rest)
+      (input before part whole : List ℕ) → TraceStops input (Some before) (Some part) →
+      TracesInput input (Some before) (Some whole) → (rest : List ℕ) × (whole ≡ part ++ rest)
   pub printed :
       (book : Bool) (input out trace : List ℕ) → ReplaysInput book Sizes input (Some []) (Some out) →
-      (h : TracesInput input (Some []) (Some trace)) →
+      (h : TracesInput input (Some []) (Some trace)) → are_some h.network.strangers ≡ false →
       PrintsTrace book out trace (told_lines input (Some []) (Some trace) h)
 
 -- What is written is that of the input which was read, and of no other one: two ends of one input that were done wrote

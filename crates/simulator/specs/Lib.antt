@@ -1,5 +1,4 @@
 pub mod Traced
-pub mod MixedTraced
 pub mod Recorded
 pub mod Program
 pub mod Named

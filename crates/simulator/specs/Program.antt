@@ -3,10 +3,11 @@ use Rattle.std.specs.Prelude.{◌≡◌, ◌≢◌, ◌⊎◌, ◌↔◌, ℕ, B
 use Rattle.std.specs.Io.KnownBytes.{Appends, IsAtEnd, Keeps}
 use Rattle.command_line.specs.declared.verdict.Verdict.{Verdict}
 use Rattle.command_line.specs.Audits.{Audited, AuditsLog, IsAuditFault, IsSomeLog, audit_text, status_at, status_said}
-use Rattle.command_line.specs.Either.{IsEitherFault, IsEitherInput, RanEither, RanEitherInPart, ReplaysEither, StopsEither}
 use Rattle.command_line.specs.Faults.{script_text, status_of}
-use Rattle.command_line.specs.MixedLogs.{LoggedEither, LogsEither}
-use Rattle.simulator.specs.MixedTraced.{TraceStopsEither, TracedEither, TracedEitherInPart, TracesEither}
+use Rattle.command_line.specs.Input.{IsScriptFault, IsSomeInput}
+use Rattle.command_line.specs.Logs.{Logged, LogsInput}
+use Rattle.command_line.specs.Replayed.{Ran, RanInPart, ReplaysInput, StopsInput}
+use Rattle.simulator.specs.Traced.{TraceStops, Traced, TracedInPart, TracesInput}
 use Rattle.command_line.specs.Options.{detail_of, options_of, task_of}
 use Rattle.command_line.specs.Reading.{ReadsAll, ReadsFirst}
 use Rattle.command_line.specs.About.{version_text}
@@ -59,27 +60,27 @@ sides input left unread before after = record { input = input; left = left; unre
 abbrev pub Replayed : Bool → Options → Sides → Type 0
 Replayed true options s = Appends s.before s.after (codes "ok\n")
 Replayed false options s =
-    RanEither options.book (detail_of options.texts) s.before s.after
-    × IfSome s.input (λ octets. ReplaysEither options.book (detail_of options.texts) octets s.before s.after)
+    Ran options.book (detail_of options.texts) s.before s.after
+    × IfSome s.input (λ octets. ReplaysInput options.book (detail_of options.texts) octets s.before s.after)
 
 -- with these options an input is replayed, or only read; or its first fault is given, and where memory runs out the first part is written. Unless a read
 -- fails or memory runs out, all is read, up to an octet more than an input may have; so it is with the log and the trace
 pub record EndsReplay (options : Options) (s : Sides) (r : Result (Unit {0}) ScriptFault) : Type 0 where
   pub replayed : OnOk r (Replayed options.check options s)
-  pub read : s.unread ≡ false → IfSome s.input (λ octets. MatchResult r (λ _. IsEitherInput octets) (IsEitherFault octets))
+  pub read : s.unread ≡ false → IfSome s.input (λ octets. MatchResult r (λ _. IsSomeInput octets) (IsScriptFault octets))
   pub options_read : IfErr r (λ f. f ≢ script.BadOptions)
   pub reads : ReadsFirst s.input s.left
   pub reads_all : r ≢ Err script.CannotRead → r ≢ Err script.OutOfMemory → ReadsAll s.input s.left
-  pub ran_in_part : r ≡ Err script.OutOfMemory → Keeps s.before s.after ⊎ RanEitherInPart (detail_of options.texts) s.before s.after
-  pub first_part : r ≡ Err script.OutOfMemory → IfSome s.input (λ octets. Keeps s.before s.after ⊎ StopsEither (detail_of options.texts) octets s.before s.after)
+  pub ran_in_part : r ≡ Err script.OutOfMemory → Keeps s.before s.after ⊎ RanInPart (detail_of options.texts) s.before s.after
+  pub first_part : r ≡ Err script.OutOfMemory → IfSome s.input (λ octets. Keeps s.before s.after ⊎ StopsInput (detail_of options.texts) octets s.before s.after)
   -- an input that is only read has no first part
   pub nothing : options.check ≡ true → r ≡ Err script.OutOfMemory → Keeps s.before s.after
 
 -- an input is replayed and its log is written, or the first fault is given. Where memory runs out nothing is written
 pub record EndsLog (s : Sides) (r : Result (Unit {0}) ScriptFault) : Type 0 where
-  pub ran : OnOk r (LoggedEither s.before s.after)
-  pub logged : OnOk r (IfSome s.input (λ octets. LogsEither octets s.before s.after))
-  pub read : s.unread ≡ false → IfSome s.input (λ octets. MatchResult r (λ _. IsEitherInput octets) (IsEitherFault octets))
+  pub ran : OnOk r (Logged s.before s.after)
+  pub logged : OnOk r (IfSome s.input (λ octets. LogsInput octets s.before s.after))
+  pub read : s.unread ≡ false → IfSome s.input (λ octets. MatchResult r (λ _. IsSomeInput octets) (IsScriptFault octets))
   pub options_read : IfErr r (λ f. f ≢ script.BadOptions)
   pub reads : ReadsFirst s.input s.left
   pub reads_all : r ≢ Err script.CannotRead → r ≢ Err script.OutOfMemory → ReadsAll s.input s.left
@@ -87,14 +88,14 @@ pub record EndsLog (s : Sides) (r : Result (Unit {0}) ScriptFault) : Type 0 wher
 
 -- an input is replayed and its trace is written, or the first fault is given, and where memory runs out the first part is written
 pub record EndsTrace (s : Sides) (r : Result (Unit {0}) ScriptFault) : Type 0 where
-  pub ran : OnOk r (TracedEither s.before s.after)
-  pub traced : OnOk r (IfSome s.input (λ octets. TracesEither octets s.before s.after))
-  pub read : s.unread ≡ false → IfSome s.input (λ octets. MatchResult r (λ _. IsEitherInput octets) (IsEitherFault octets))
+  pub ran : OnOk r (Traced s.before s.after)
+  pub traced : OnOk r (IfSome s.input (λ octets. TracesInput octets s.before s.after))
+  pub read : s.unread ≡ false → IfSome s.input (λ octets. MatchResult r (λ _. IsSomeInput octets) (IsScriptFault octets))
   pub options_read : IfErr r (λ f. f ≢ script.BadOptions)
   pub reads : ReadsFirst s.input s.left
   pub reads_all : r ≢ Err script.CannotRead → r ≢ Err script.OutOfMemory → ReadsAll s.input s.left
-  pub ran_in_part : r ≡ Err script.OutOfMemory → Keeps s.before s.after ⊎ TracedEitherInPart s.before s.after
-  pub first_part : r ≡ Err script.OutOfMemory → IfSome s.input (λ octets. Keeps s.before s.after ⊎ TraceStopsEither octets s.before s.after)
+  pub ran_in_part : r ≡ Err script.OutOfMemory → Keeps s.before s.after ⊎ TracedInPart s.before s.after
+  pub first_part : r ≡ Err script.OutOfMemory → IfSome s.input (λ octets. Keeps s.before s.after ⊎ TraceStops octets s.before s.after)
 
 -- the lines of an input are answered in turn, to its end; or those before a fault
 pub record EndsLive (s : Sides) (r : Result (Unit {0}) ScriptFault) : Type 0 where

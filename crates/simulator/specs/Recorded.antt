@@ -1,5 +1,5 @@
 -- What a trace has as printed, line by line.
-use Rattle.std.specs.Prelude.{◌≡◌, ℕ, Bool, List, [], ◌∷◌, ◌++◌, Option, None, codes, map}
+use Rattle.std.specs.Prelude.{◌≡◌, ℕ, Bool, true, false, List, [], ◌∷◌, ◌++◌, Option, None, codes, map, zip}
 use Rattle.std.specs.List.{flat_map}
 use Rattle.interface.specs.declared.carrier.CarrierFault.TheVariants as fault
 use Rattle.interface.specs.declared.crossing.Crossing.{Crossing}
@@ -23,11 +23,13 @@ use Rattle.subnet_trace.specs.Traced.{subnet_inside}
 use Rattle.topology.specs.Topology.{TopologyFields}
 use Rattle.topology.specs.declared.network.CarrierKind.{CarrierKind}
 use Rattle.topology.specs.declared.network.CarrierKind.TheVariants as kind
+use Rattle.net_sim.specs.Carriers.{shown}
 use Rattle.trace.specs.Traces.{Inside, plain_inside}
+use Rattle.trace.specs.declared.all_parts.AllParts.{AllParts}
 use Rattle.command_line.specs.Carriers.{plain_of, subnet_of}
-use Rattle.command_line.specs.Events.{Asked, Raw, World}
+use Rattle.command_line.specs.Events.{Asked, Raw, World, are_some}
 use Rattle.command_line.specs.Replayed.{book_text}
-use Rattle.simulator.specs.Traced.{TracesAll, TracesInput, TracesOver}
+use Rattle.simulator.specs.Traced.{TracesAll, TracesIn, TracesInput, TracesOver}
 
 -- a line of a trace after the first: of an elementary event of a network without host programs, or of an event with them, of the script or of a calm
 pub data Recorded : Type 0 where
@@ -55,11 +57,18 @@ pub record PrintsTrace (book : Bool) (out trace : List ℕ) (lines : List (List 
 
 -- ---- the lines of a trace that was written
 
+abbrev pub told_in : {C : Type 0} (among : Bool) (calls : Calls C) (members : C → AllParts) (t : TopologyFields) (opening : C)
+    (events : List (ℕ × WorldEvent)) (before after : Option (List ℕ))
+    → TracesIn among calls members t opening events before after → List (List ℕ)
+told_in true calls members t opening events before after h = h.traced.shown
+told_in false calls members t opening events before after h = h.traced.shown
+
 abbrev pub told_from : {C : Type 0} (calls : Calls C) (inside : Inside C) (t : TopologyFields) (opening : C)
     (numbers : List ℕ) (events : Asked) (before after : Option (List ℕ))
     → TracesAll calls inside t opening numbers events before after → List (List ℕ)
 told_from calls inside t opening numbers (Raw events) before after h = h.traced.shown
-told_from calls inside t opening numbers (World events) before after h = h.traced.shown
+told_from calls inside t opening numbers (World events) before after h =
+    told_in (are_some t.strangers) (shown calls) inside.members t opening (zip numbers events) before after h
 
 abbrev pub told_over : (carrier : CarrierKind) (t : TopologyFields) (numbers : List ℕ) (events : Asked)
     (before after : Option (List ℕ)) → TracesOver carrier t numbers events before after → List (List ℕ)

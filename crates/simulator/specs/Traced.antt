@@ -1,5 +1,5 @@
 -- What is written of a replay as a trace.
-use Rattle.std.specs.Prelude.{◌≡◌, ℕ, List, Option, length, zip}
+use Rattle.std.specs.Prelude.{◌≡◌, ℕ, Bool, true, false, IfSome, List, Option, length, zip}
 use Rattle.leader1822.specs.Boxes.{plain_calls}
 use Rattle.interface.specs.Calls.{Calls}
 use Rattle.script.specs.Input.{IsParted}
@@ -11,13 +11,15 @@ use Rattle.topology.specs.declared.network.CarrierKind.TheVariants as kind
 use Rattle.trace.specs.Traces.{AfterOpening, Inside, StopsElement, TraceEnds, Traces, WritesTrace, event_lines, plain_inside}
 use Rattle.trace.specs.declared.all_parts.AllParts.{AllParts}
 use Rattle.net_sim.specs.Carriers.{shown}
+use Rattle.net_sim.specs.Steps.{opening_mixed}
 use Rattle.net_sim.specs.World.{WorldState, opening_world}
 use Rattle.world_script.specs.declared.event.WorldEvent.{WorldEvent}
+use Rattle.world_trace.specs.MixedTraces.{WritesMixed, WritesMixedPart}
 use Rattle.world_trace.specs.Traces as worlds
 use Rattle.world_trace.specs.Traces.{StopsOne, TracesWorld, WorldTraceEnds}
 use Rattle.subnet.specs.Working.{subnet_calls}
 use Rattle.command_line.specs.Carriers.{plain_of, subnet_of}
-use Rattle.command_line.specs.Events.{Asked, Raw, World}
+use Rattle.command_line.specs.Events.{Asked, Raw, World, are_some}
 use Rattle.command_line.specs.Input.{IsInput}
 use Rattle.command_line.specs.Stopping.{NothingOr}
 
@@ -43,20 +45,33 @@ pub record WorldEndsFrom {C : Type 0} (calls : Calls C) (members : C → AllPart
   pub last : WorldState C
   pub traced : WritesTrace (worlds.AfterOpening members t (opening_world calls opening) (WorldTraceEnds calls members (StopsOne calls) (opening_world calls opening) events last)) before after
 
--- in one of them, or before the first line
-abbrev pub WorldStopsFrom : {C : Type 0} → Calls C → (C → AllParts) → TopologyFields → C → List (ℕ × WorldEvent)
-    → Option (List ℕ) → Option (List ℕ) → Type 0
-WorldStopsFrom calls members t opening events before after =
-    NothingOr (WorldEndsFrom calls members t opening events) before after
+-- events are replayed so where these hosts of a topology are strangers, and their trace is written: the first line also says who they are
+pub record TracesAmong {C : Type 0} (calls : Calls C) (members : C → AllParts) (t : TopologyFields) (opening : C) (events : List (ℕ × WorldEvent)) (before after : Option (List ℕ)) : Type 0 where
+  pub last : WorldState C
+  pub traced : WritesMixed calls members t (opening_mixed calls opening t.strangers) events last before after
+
+-- memory ran out in one of them
+pub record EndsAmong {C : Type 0} (calls : Calls C) (members : C → AllParts) (t : TopologyFields) (opening : C) (events : List (ℕ × WorldEvent)) (before after : Option (List ℕ)) : Type 0 where
+  pub last : WorldState C
+  pub traced : WritesMixedPart calls members t (opening_mixed calls opening t.strangers) events last before after
+
+-- with strangers or without
+abbrev pub TracesIn : {C : Type 0} → Bool → Calls C → (C → AllParts) → TopologyFields → C → List (ℕ × WorldEvent) → Option (List ℕ) → Option (List ℕ) → Type 0
+TracesIn true calls members t opening events before after = TracesAmong calls members t opening events before after
+TracesIn false calls members t opening events before after = WorldTracesFrom calls members t opening events before after
+
+abbrev pub EndsIn : {C : Type 0} → Bool → Calls C → (C → AllParts) → TopologyFields → C → List (ℕ × WorldEvent) → Option (List ℕ) → Option (List ℕ) → Type 0
+EndsIn true calls members t opening events before after = EndsAmong calls members t opening events before after
+EndsIn false calls members t opening events before after = WorldEndsFrom calls members t opening events before after
 
 -- events of either kind, which are in these lines of a script
 abbrev pub TracesAll : {C : Type 0} → Calls C → Inside C → TopologyFields → C → List ℕ → Asked → Option (List ℕ) → Option (List ℕ) → Type 0
 TracesAll calls inside t opening lines (Raw events) before after = TracesFrom calls inside t opening (zip lines events) before after
-TracesAll calls inside t opening lines (World events) before after = WorldTracesFrom (shown calls) inside.members t opening (zip lines events) before after
+TracesAll calls inside t opening lines (World events) before after = TracesIn (are_some t.strangers) (shown calls) inside.members t opening (zip lines events) before after
 
 abbrev pub EndsAll : {C : Type 0} → Calls C → Inside C → TopologyFields → C → List ℕ → Asked → Option (List ℕ) → Option (List ℕ) → Type 0
 EndsAll calls inside t opening lines (Raw events) before after = EndsFrom calls inside t opening (zip lines events) before after
-EndsAll calls inside t opening lines (World events) before after = WorldEndsFrom (shown calls) inside.members t opening (zip lines events) before after
+EndsAll calls inside t opening lines (World events) before after = EndsIn (are_some t.strangers) (shown calls) inside.members t opening (zip lines events) before after
 
 -- ---- of a topology
 
@@ -109,6 +124,10 @@ pub record TraceStops (octets : List ℕ) (before after : Option (List ℕ)) : T
   pub events : Asked
   pub input : IsScripted octets network lines events
   pub stopped : EndsOn network lines events before after
+
+-- nothing is written, or this much of a reader's octets, where these are known
+abbrev pub TraceStopsKnown : Option (List ℕ) → Option (List ℕ) → Option (List ℕ) → Type 0
+TraceStopsKnown known before after = IfSome known (λ octets. NothingOr (TraceStops octets) before after)
 
 -- the same of some script and some topology, for any reader
 pub record Traced (before after : Option (List ℕ)) : Type 0 where

@@ -32,6 +32,10 @@ no_options = record { book = false; check = false; texts = false }
 abbrev pub only_check : Options
 only_check = record { book = false; check = true; texts = false }
 
+-- words that ask for nothing
+abbrev pub no_task : List (List ℕ)
+no_task = codes "--foo" ∷ []
+
 -- memory ran out
 abbrev pub out_of_memory : Result Done ProgramFault
 out_of_memory = Err (fault.Script script.OutOfMemory)

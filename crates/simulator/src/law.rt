@@ -2,18 +2,20 @@
 //! nothing: their clauses are the laws.
 
 ghost use Rattle.std.specs.Prelude.{◌≡◌, ℕ, Bool, true, false, List, [], ◌∷◌, ◌++◌, length};
-ghost use Rattle.std.specs.Prelude.{Ok, Err, Some, None, codes};
+ghost use Rattle.std.specs.Prelude.{Option, Result, Ok, Err, Some, None, codes};
 ghost use Rattle.simulator.specs.Laws.{OneProgram, OneTrace};
-ghost use Rattle.simulator.specs.Named.{input_of};
+ghost use Rattle.simulator.specs.Named.{RunsOn, input_of};
 ghost use Rattle.simulator.specs.Program.{Closes, EndsTask, LeavesUntouched, Sides, exit_status};
 ghost use Rattle.simulator.specs.Recorded.{PrintsTrace, recorded_text, unforgotten};
 ghost use Rattle.command_line.specs.Audits.{kept};
-ghost use Rattle.simulator.specs.WorkedSides.{Names, Never, starts};
-ghost use Rattle.simulator.specs.WorkedSides.{drained, no_options, only_check, out_of_memory, ran, unread, wrote};
+ghost use Rattle.simulator.specs.WorkedSides.{Names, Never, drained, no_options, no_task, only_check};
+ghost use Rattle.simulator.specs.WorkedSides.{out_of_memory, ran, starts, unread, wrote};
 ghost use Rattle.command_line.specs.declared.auditing.AuditFault.TheVariants as unlogged;
 ghost use Rattle.command_line.specs.declared.fault.ScriptFault.TheVariants as script;
 ghost use Rattle.command_line.specs.declared.options.Task.TheVariants as task;
+ghost use Rattle.simulator.specs.declared.program.Done.{Done};
 ghost use Rattle.simulator.specs.declared.program.Done.TheVariants as did;
+ghost use Rattle.simulator.specs.declared.program.ProgramFault.{ProgramFault};
 ghost use Rattle.simulator.specs.declared.program.ProgramFault.TheVariants as fault;
 ghost use Rattle.command_line.specs.declared.verdict.Verdict.{Verdict};
 ghost use Rattle.session.specs.Head.{IsHead};
@@ -102,6 +104,16 @@ pub fn worked_names()
     ensures empty { Names ([] ∷ []) (codes "-") ([] ∷ []) }
     ensures short { Names (codes "-b" ∷ []) (codes "-") (codes "-b" ∷ []) }
     ensures hyphens { Names (codes "--" ∷ codes "a" ∷ []) (codes "a") (codes "--" ∷ []) }
+{}
+
+/// What is left of the input that words name, and what is written.
+pub fn worked_inputs()
+    // words that are refused leave it unread, and nothing is written of it, even where memory runs out
+    ensures unread { (input before after : Option (List ℕ)) (failed flushed : Bool) (r : Result Done ProgramFault) (h : RunsOn input no_task before after failed flushed (Unit {0}) r) → h.left ≡ input }
+    ensures unwritten { (input before after : Option (List ℕ)) (failed flushed : Bool) → RunsOn input no_task before after failed flushed ⊥ out_of_memory → ⊥ }
+
+    // nothing is written before a topology is found to be bad
+    ensures untouched { (input before after : Option (List ℕ)) (failed flushed : Bool) → RunsOn input (codes "--check" ∷ []) before after failed flushed ⊥ (Err (fault.Script script.BadTopology)) → ⊥ }
 {}
 
 /// Ends that report no failure, or a wrong one.

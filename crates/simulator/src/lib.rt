@@ -12,7 +12,6 @@
 #![tactic(auto)]
 
 pub mod law;
-mod mixed_tracing;
 mod named;
 mod program;
 mod tracing;

@@ -1,5 +1,4 @@
 -- The names that several files of these proofs take from elsewhere, passed on from one place.
-pub use Rattle.bit_messages.specs.Body.{body}
 pub use Rattle.flow_law.proofs.lemmas.{makes_one, sound_run}
 pub use Rattle.flow_law.specs.Follows.{AllFollow, Follows, passed_over}
 pub use Rattle.flow_law.specs.Invariant.{Invariant}
@@ -17,21 +16,20 @@ pub use Rattle.imp_node.proofs.lemmas.{at_set, same_at}
 pub use Rattle.imp_node.specs.Arrival.{from_line, ignored}
 pub use Rattle.imp_node.specs.Asking.{ask, ask_refusal, asked_by}
 pub use Rattle.imp_node.specs.Flows.{answer_packet, answered_by, fated, freed, given, is_idle, next_number}
-pub use Rattle.imp_node.specs.Lines.{end_down, end_up, on_port, resend, resent_by, resent_from, route, told_by, told_from}
+pub use Rattle.imp_node.specs.Lines.{claim, end_down, end_up, on_port, resend, resent_by, resent_from, route, told_by, told_from}
 pub use Rattle.imp_node.specs.Offering.{Away, Here, Nowhere, Way, from_host, from_host_refusal, is_own, offered, way_has_room, way_of}
 pub use Rattle.imp_node.specs.Pump.{pump, stored}
 pub use Rattle.imp_node.specs.Queries.{outstanding}
 pub use Rattle.imp_node.specs.Room.{has_room_to}
-pub use Rattle.imp_node.specs.Sides.{AllUnmoved, IsImp, Moved, Receiver, Sender, Unmoved, answers_of, begun_with, ended_with, fated_with, messages_of, noted_with, queued_with, receiver, sender, told_with}
-pub use Rattle.imp_node.specs.State.{HostState, ImpTurn, State, down_port, host_at, no_host, number, port_at, with_host}
-pub use Rattle.imp_node.specs.Stopping.{abandon, all_returned, forget, give_up, give_up_refusal, host_down, host_down_refusal, host_up, host_up_refusal, message_returned, own_host, stopped}
-pub use Rattle.imp_node.specs.Taking.{is_from_here, replied, reply_has_room, taken_by, taking_has_room, to_host, to_host_refusal}
+pub use Rattle.imp_node.specs.Sides.{AllUnmoved, IsImp, Moved, Receiver, Sender, Unmoved, answers_of, begun_with, ended_with, fated_with, messages_of, noted_with, queued_with, receiver, sender}
+pub use Rattle.imp_node.specs.State.{HostState, ImpTurn, State, down_port, host_at, no_host, number, port_at}
+pub use Rattle.imp_node.specs.Stopping.{abandon, all_returned, forget, give_up, give_up_refusal, host_down, host_down_refusal, host_up_refusal, message_returned, own_host, stopped}
+pub use Rattle.imp_node.specs.Taking.{is_from_here, replied, taken_by, to_host, to_host_refusal}
 pub use Rattle.imp_node.specs.declared.outgoing.Outgoing.{Outgoing}
 pub use Rattle.imp_node.specs.declared.port.Port.{Port}
 pub use Rattle.imp_node.specs.declared.waiting.Message.{Message}
 pub use Rattle.imp_node.specs.declared.waiting.Told.{Told}
 pub use Rattle.interface.proofs.lemmas.{and_true, guard, not_false, or_false, same_flow-refl, same_flow-true, same_host-true}
-pub use Rattle.interface.specs.Calls.{is_memory}
 pub use Rattle.interface.specs.Flow.{flow_cmp, same_flow}
 pub use Rattle.interface.specs.Host.{Host, is_host, most_imps, same_host}
 pub use Rattle.interface.specs.Mailboxes.{Box, IsRun, box_of}
@@ -44,7 +42,7 @@ pub use Rattle.interface.specs.declared.event.Direction.{Direction}
 pub use Rattle.interface.specs.declared.event.NetEvent.{NetEvent}
 pub use Rattle.interface.specs.declared.message.HostMessage.{HostMessage}
 pub use Rattle.link_table.proofs.lemmas.{asked, get_begun, outstanding_to_none, outstanding_to_one}
-pub use Rattle.link_table.specs.Flows.{fate_in, has_outstanding, kept_in, last_in, outstanding_in, release_in}
+pub use Rattle.link_table.specs.Flows.{has_outstanding, last_in, outstanding_in, release_in}
 pub use Rattle.link_table.specs.Keys.{has_from}
 pub use Rattle.link_table.specs.declared.destination.Fate.{Fate}
 pub use Rattle.link_table.specs.declared.destination.Noted.{Noted}
@@ -72,7 +70,7 @@ pub use Rattle.subnet.specs.Flows.{Alive, imp_is_up, kind_of, packet_of, queued_
 pub use Rattle.subnet.specs.Inside.Calling.{AreLive, CallEnds, IsLive, SameLog, call_grows, call_refusal, call_turn, carried_first, downs_in_order, frames_by, imp_by, imps_by}
 pub use Rattle.subnet.specs.Inside.Joined.{lines_from, ports_from}
 pub use Rattle.subnet.specs.Making.{NothingNew, OnlyNew, made_at}
-pub use Rattle.subnet.specs.Net.{Net, Wire, dropping, ends_at, far_end, followed_by, frames_on, imp_at, line_from, line_places, no_wire, port_of, put_all, put_on, put_one, wire_at, with_frame, with_turn, without_at}
+pub use Rattle.subnet.specs.Net.{Net, Wire, dropping, ends_at, far_end, followed_by, frames_on, imp_at, line_from, no_wire, port_of, put_all, put_on, put_one, wire_at, with_frame, with_turn, without_at}
 pub use Rattle.subnet.specs.Offers.{CanGo, CanGoFrom, IsCarriable}
 pub use Rattle.subnet.specs.Opening.{AreHosts, Ends, empty_wire, host_there, hosts_from, hosts_of_one, opened_from, opened_imp, opening_subnet}
 pub use Rattle.subnet.specs.Sound.{IsAt, IsSound}

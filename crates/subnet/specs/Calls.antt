@@ -11,7 +11,7 @@ use Rattle.interface.specs.declared.event.NetEvent.TheVariants as event
 use Rattle.imp_channel.specs.Holding.{bits_carried}
 use Rattle.imp_channel.specs.declared.frame.Frame.{Frame}
 use Rattle.imp_node.specs.State.{State}
-use Rattle.imp_node.specs.Turns.{resend_grows, route_grows, end_down_grows, end_up_grows, give_up_grows, forget_grows, abandon_grows, ask_grows, from_line_grows, to_host_grows}
+use Rattle.imp_node.specs.Turns.{resend_grows, route_grows, claim_grows, end_down_grows, end_up_grows, give_up_grows, forget_grows, abandon_grows, ask_grows, from_line_grows, to_host_grows}
 use Rattle.subnet.specs.Net.{Net, Wire, imp_at, wire_at, port_of, frames_on, far_end}
 use Rattle.subnet.specs.Flows.{imp_is_up}
 use Rattle.subnet.specs.Events.{first_of, taken_by_host}
@@ -78,6 +78,7 @@ step_grows n (event.Drop l d k) = false
 step_grows n (event.Garble l d k) = false
 step_grows n (event.Resend i) = grows_at (imp_at n.imps i) resend_grows
 step_grows n (event.Route i) = grows_at (imp_at n.imps i) route_grows
+step_grows n (event.Claim i) = grows_at (imp_at n.imps i) claim_grows
 step_grows n (event.EndDown i l) = grows_at (imp_at n.imps i) (λ s. end_down_grows s (port_of n.lines i l))
 step_grows n (event.EndUp i l) = grows_at (imp_at n.imps i) (λ s. end_up_grows s (port_of n.lines i l))
 step_grows n (event.ImpDown i) = grows_at (imp_at n.imps i) has_host_up

@@ -26,7 +26,7 @@ use Rattle.imp_node.specs.Offering.{begins, from_host, from_host_refusal}
 use Rattle.imp_node.specs.Arrival.{from_line}
 use Rattle.imp_node.specs.Taking.{next_for, to_host, to_host_refusal}
 use Rattle.imp_node.specs.Asking.{ask, ask_refusal}
-use Rattle.imp_node.specs.Lines.{resend, route, end_down, end_up, end_down_refusal, end_up_refusal}
+use Rattle.imp_node.specs.Lines.{resend, route, claim, end_down, end_up, end_down_refusal, end_up_refusal}
 use Rattle.imp_node.specs.Stopping.{give_up, give_up_refusal, forget, abandon, abandon_refusal, host_down, host_down_refusal, host_up, host_up_refusal}
 use Rattle.imp_node.specs.Queries.{last, outstanding, kept}
 use Rattle.subnet.specs.Net.{Net, imp_at, wire_at, ends_at, port_of, with_turn, frames_on, far_end, dropping}
@@ -275,6 +275,7 @@ step_refusal n (event.Drop l d k) = frame_refusal n l d k
 step_refusal n (event.Garble l d k) = frame_refusal n l d k
 step_refusal n (event.Resend i) = imp_refusal n i
 step_refusal n (event.Route i) = imp_refusal n i
+step_refusal n (event.Claim i) = imp_refusal n i
 step_refusal n (event.EndDown i l) = at_end_refusal n i l end_down_refusal
 step_refusal n (event.EndUp i l) = at_end_refusal n i l end_up_refusal
 step_refusal n (event.ImpDown i) = imp_refusal n i
@@ -292,6 +293,7 @@ stepped n (event.Drop l d k) = drop_frame n l d k
 stepped n (event.Garble l d k) = drop_frame n l d k
 stepped n (event.Resend i) = at_imp (imp_at n.imps i) i resend n
 stepped n (event.Route i) = at_imp (imp_at n.imps i) i route n
+stepped n (event.Claim i) = at_imp (imp_at n.imps i) i claim n
 stepped n (event.EndDown i l) = at_imp (imp_at n.imps i) i (λ s. end_down s (port_of n.lines i l)) n
 stepped n (event.EndUp i l) = at_imp (imp_at n.imps i) i (λ s. end_up s (port_of n.lines i l)) n
 stepped n (event.ImpDown i) = imp_stopped n i

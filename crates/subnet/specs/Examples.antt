@@ -95,7 +95,7 @@ expecting = record imp_1 { sources = begun map.empty ours }
 
 -- the same without a live route, and with a store that is full
 abbrev pub expecting_cut_off : State
-expecting_cut_off = record expecting { routes = record { own = 1; heard = None ∷ [] } }
+expecting_cut_off = record expecting { routes = record { own = 1; heard = None ∷ []; claims = false } }
 
 abbrev pub expecting_full : State
 expecting_full = record expecting { store = packets_to 3 32 }

@@ -101,7 +101,7 @@ pub record WorkedStillAlive : Type 0 where
       (offer_refusal (pair (Some (record (begun_up_to 32767) { store = packets_to 3 32 })) (Some imp_2)
       (data_frame 1 ∷ []) []) our_message ≡ Some fault.NoRoom)
   pub offer_nowhere :
-      offer_refusal (pair (Some (record (begun_up_to 32767) { routes = record { own = 1; heard = None ∷ [] } }))
+      offer_refusal (pair (Some (record (begun_up_to 32767) { routes = record { own = 1; heard = None ∷ []; claims = false } }))
       (Some imp_2) (data_frame 0 ∷ []) []) our_message
       ≡ None
   pub offer_down :

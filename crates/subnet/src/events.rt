@@ -32,6 +32,7 @@ impl Parts {
             } => self.drop_frame(line, direction, frame),
             NetEvent::Resend(imp) => self.resend(imp),
             NetEvent::Route(imp) => self.route(imp),
+            NetEvent::Claim(imp) => self.claim(imp),
             NetEvent::EndDown { imp, line } => self.end_down(imp, line),
             NetEvent::EndUp { imp, line } => self.end_up(imp, line),
             NetEvent::ImpDown(imp) => self.imp_down(imp),

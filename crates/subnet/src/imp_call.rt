@@ -25,6 +25,8 @@ pub enum ImpCall {
     Resend,
     /// It sends its neighbours its distances.
     Route,
+    /// It claims to be at distance 0 from every IMP.
+    Claim,
     /// The end of a line at a port stops.
     EndDown(u8),
     /// The end of a line at a port starts.
@@ -55,6 +57,7 @@ impl ImpCall {
             ImpCall::Arrive(port, frame) => imp.from_line(port, frame),
             ImpCall::Resend => imp.resend(),
             ImpCall::Route => imp.route(),
+            ImpCall::Claim => imp.claim(),
             ImpCall::EndDown(port) => imp.end_down(port),
             ImpCall::EndUp(port) => imp.end_up(port),
             ImpCall::GiveUp(flow) => imp.give_up(flow),

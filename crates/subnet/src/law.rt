@@ -301,7 +301,7 @@ pub fn worked_asking()
 
     // the source itself may be down, without a route no room is called for, and what is alive doesn't matter
     ensures source_down { step_refusal (pair (Some (record expecting { hosts = no_host ∷ no_host ∷ [] })) (Some imp_2) [] []) (event.Ask ours) ≡ None }
-    ensures dropped { step_refusal (pair (Some (record expecting_full { routes = record { own = 1; heard = None ∷ [] } })) (Some imp_2) [] []) (event.Ask ours) ≡ None }
+    ensures dropped { step_refusal (pair (Some (record expecting_full { routes = expecting_cut_off.routes })) (Some imp_2) [] []) (event.Ask ours) ≡ None }
     ensures asked_again { step_refusal (pair (Some expecting) (Some imp_2) (data_frame 0 ∷ ask_frame 0 ∷ []) []) (event.Ask ours) ≡ None }
 
     // memory may run out only where the question goes out

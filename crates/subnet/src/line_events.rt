@@ -54,6 +54,20 @@ impl Parts {
         Ok(())
     }
 
+    /// Lets an IMP claim to be at distance 0 from every IMP.
+    pub(crate) fn claim(&mut self, imp: ImpNumber) -> Result<(), CarrierFault>
+        requires { AreLive self.old.imps }
+        ensures step { Steps (event.Claim imp) self.old self.new result }
+        ensures live { OnOk result (AreLive self.new.imps) }
+        ensures keeps { SameLog self.old self.new }
+    {
+        let number = imp.number();
+        if !self.is_imp(number) {
+            return Err(CarrierFault::NoSuch);
+        }
+        self.at_imp(number, ImpCall::Claim)
+    }
+
     /// Takes an IMP's end of a line down.
     pub(crate) fn end_down(&mut self, imp: ImpNumber, line: u32) -> Result<(), CarrierFault>
         requires { AreLive self.old.imps }

@@ -1,7 +1,8 @@
 //! Networks in which a quiet round changes nothing.
 
-ghost use Rattle.std.specs.Prelude.{◌≡◌, ◌<◌, ℕ, length, true, Some};
+ghost use Rattle.std.specs.Prelude.{◌≡◌, ◌<◌, ℕ, length, false, true, Some};
 ghost use Rattle.std.specs.List.{list_all};
+ghost use Rattle.interface.specs.Host.{is_host};
 ghost use Rattle.interface.specs.declared.event.Direction.{Direction};
 ghost use Rattle.imp_node.specs.State.{port_at};
 ghost use Rattle.subnet.specs.Net.{imp_at};
@@ -26,25 +27,32 @@ impl Parts {
         all_silent(self.lines.all()) && all_wait(&self.imps) && self.all_are_still()
     }
 
-    /// Returns whether a taking of any host of the network is refused, or gives nothing and changes nothing.
-    pub(crate) fn all_take_nothing(&self) -> bool
-        ensures { result ≡ true → (i : ℕ) → i < length self.now.hosts → TakesNoneAt self.now i }
+    /// Returns whether a taking of any host of the network but these is refused, or gives nothing and changes nothing.
+    pub(crate) fn all_take_nothing(&self, hosts: &[HostAddr]) -> bool
+        ensures { result ≡ true → (i : ℕ) → i < length self.now.hosts → TakesNoneAt self.now hosts.now i }
     {
-        let hosts = self.hosts.all().len();
-        for at in 0..hosts {
-            if !self.takes_nothing_at(at) {
+        let count = self.hosts.all().len();
+        for at in 0..count {
+            if !self.takes_nothing_at(at, hosts) {
                 return false;
             }
         }
         true
     }
 
-    /// Returns whether this is so of the host at this place.
-    fn takes_nothing_at(&self, at: usize) -> bool
+    /// Returns whether this is so of the host at this place, or it is one of these.
+    fn takes_nothing_at(&self, at: usize, hosts: &[HostAddr]) -> bool
         requires { at < length self.now.hosts }
-        ensures { result ≡ true → TakesNoneAt self.now at }
+        ensures { result ≡ true → TakesNoneAt self.now hosts.now at }
     {
-        self.takes_nothing(&self.hosts.all()[at])
+        self.takes_nothing_beside(&self.hosts.all()[at], hosts)
+    }
+
+    /// Returns whether this is so of a host, or it is one of these.
+    fn takes_nothing_beside(&self, host: &HostAddr, hosts: &[HostAddr]) -> bool
+        ensures { result ≡ true → is_host hosts.now host.now ≡ false → TakesNone self.now host.now }
+    {
+        self.takes_nothing(host) || hosts.contains(host)
     }
 
     /// Returns whether this host is down, or its IMP is, or nothing waits for it and all packets in its IMP are stuck.

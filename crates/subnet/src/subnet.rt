@@ -2,7 +2,7 @@
 
 ghost use Rattle.std.specs.Prelude.{◌≡◌, ◌+◌, ◌<◌, ◌≤◌, ◌&&◌, true, false, reverse, None, Ok, All, IfSome, IfOk, length, slice_index_or};
 ghost use Rattle.interface.specs.Host.{most_imps};
-ghost use Rattle.interface.specs.Rest.{RefusesOffer, Rests};
+ghost use Rattle.interface.specs.Rest.{RefusesOffer, RestsBeside};
 ghost use Rattle.subnet.specs.Inside.Calling.{AreLive, SameLog, runs_out};
 ghost use Rattle.subnet.specs.Inside.Remembering.{is_refused};
 ghost use Rattle.subnet.specs.Routed.{IsHostMessage};
@@ -173,10 +173,10 @@ impl Subnet {
         outcome
     }
 
-    /// Returns whether it is remembered that a quiet round changes nothing, and no host would get anything.
-    fn is_at_rest(&self) -> bool
+    /// Returns whether it is remembered that a quiet round changes nothing, and no host but these would get anything.
+    fn is_at_rest(&self, hosts: &[HostAddr]) -> bool
         ensures running { result ≡ true → self.now.stopped ≡ false }
-        ensures unchanged { result ≡ true → Rests SubnetRound SubnetTake self.now }
+        ensures unchanged { result ≡ true → RestsBeside SubnetRound SubnetTake hosts.now self.now }
     {
         if self.stopped {
             return false;
@@ -184,7 +184,7 @@ impl Subnet {
         if !self.rests {
             return false;
         }
-        self.parts.all_take_nothing()
+        self.parts.all_take_nothing(hosts)
     }
 
     /// Returns whether an offer of this message is refused, and changes nothing.
@@ -263,11 +263,11 @@ impl Carrier for Subnet {
     }
 
     /// It is known from the first quiet round on that would leave the network as it is, until something is done there, and only
-    /// while nothing waits for any host that is up. Such a round finds no frame on a line, no packet in an IMP but such as wait for a
-    /// line without a free channel, and at each line that is up at both ends no packet that waits for its acknowledgement and no
-    /// distances to announce. What is sent again then is lost, at ends that are down.
-    fn rests(&self) -> bool {
-        self.is_at_rest()
+    /// while nothing waits for any host that is up, but for these. Such a round finds no frame on a line, no packet in an IMP but such
+    /// as wait for a line without a free channel, and at each line that is up at both ends no packet that waits for its
+    /// acknowledgement and no distances to announce. What is sent again then is lost, at ends that are down.
+    fn rests_beside(&self, hosts: &[HostAddr]) -> bool {
+        self.is_at_rest(hosts)
     }
 
     /// It is known of each message, by [`Subnet::offer_refusal`].

@@ -1,11 +1,13 @@
 -- A calm of a subnet is its elementary events one after another.
-use Rattle.subnet_trace.proofs.Common.{nat_tests, get_or_past, length-map, All-cons, All-nil, All-weaker, All, range_with_len, Host, CarrierFault, Inbound, NetEvent, Crossing, Direction, Frame, from_line, resend, route, holds_packet, ImpTurn, State, to_host, RawEvent, imp_is_up, Net, Wire, far_end, frames_on, imp_at, no_wire, port_of, wire_at, subnet_calls, IsPlaced}
-use Rattle.std.proofs.Common.{◌≡◌, ◌<◌, ◌≤◌, ◌-◌, ◌&&◌, ◌||◌, ℕ, zero, suc, nat_lt, Bool, false, List, [], ◌∷◌, ◌++◌, if◌then◌else◌, length, Option, Some, None, Result, Ok, Err, is_none, is_some, slice_get, refl, sym, ap, ◌∙◌, subst, arith, true}
+use Rattle.subnet_trace.proofs.Common.{nat_tests, get_or_past, length-map, All-cons, All-nil, All-weaker, All, range_with_len, Host, CarrierFault, Inbound, NetEvent, Crossing, Direction, Frame, resend, route, holds_packet, ImpTurn, State, RawEvent, imp_is_up, Net, Wire, far_end, frames_on, imp_at, no_wire, port_of, wire_at, subnet_calls, IsPlaced}
+use Rattle.imp_node.specs.Taking.{to_host}
+use Rattle.imp_node.specs.Arrival.{from_line}
+use Rattle.std.proofs.Common.{◌≡◌, ◌<◌, ◌≤◌, ◌-◌, ◌&&◌, ◌||◌, ℕ, zero, suc, nat_lt, Bool, false, List, [], ◌∷◌, ◌++◌, if◌then◌else◌, length, Option, Some, None, Result, Ok, Err, is_none, is_some, refl, sym, ap, ◌∙◌, subst, arith, true}
 use Rattle.std.proofs.lemmas.Bool.{false≢true, lt-ltb}
 use Rattle.interface.specs.Calls.{is_halt, is_memory, crossing_of}
 use Rattle.replay.specs.Output.{Shown, shown_crossings, Crossed}
-use Rattle.replay.specs.Replay.{AllTake, GoesOn, Happens, IsOneCall, Quiet, Replays, calmly, outcome_of}
-use Rattle.subnet.specs.Calls.{Fails, Kept, refusal_of, running, take_grows, round_grows}
+use Rattle.replay.specs.Replay.{GoesOn, Happens, IsOneCall, Quiet, Replays, calmly, outcome_of}
+use Rattle.subnet.specs.Calls.{Fails, Kept, running}
 use Rattle.subnet.specs.Events.{all_refreshed, all_turns, at_imp, carried, crossings_of, deliver, delivered, drop_frame, frame_refusal, imp_refusal, is_imp, quiet_round, refreshed, step_refusal, stepped, take_refusal, taken_by_host, turn_of, first_of}
 use Rattle.subnet_trace.specs.Elements.{all_refreshing, all_turning, calling, can_resend, carrying, delivering, from_subnet, is_heard, is_working, live_frames, numbers_from, refreshing, round_from_line, round_of, round_of_hosts, sending, telling, turning, IsOfRound, dropping, elements_of}
 use Rattle.trace.specs.Elements.{Course, no_course, then_course, all_takings, events_of}
@@ -60,7 +62,7 @@ does_none hosts lines n = λ h. goes_none (traced hosts lines) (running n) (Ok t
 does_then : (hosts : List Host) (lines : ℕ) (n m o : Net) (first : Course Net) (next : Net → Course Net) → Does hosts lines n first m → Does hosts lines m (next m) o → Does hosts lines n (then_course first next) o
 does_then hosts lines n m o first next one more = λ h.
     let g : Goes (traced hosts lines) (running n) first (Ok tt) (running m) = one h in
-    goes_then (traced hosts lines) (running n) (running m) (running o) first next (Ok tt) (Ok tt) g (more g.holds)
+    goes_then _ _ _ _ first next _ _ g (more g.holds)
 
 -- as a call that changes nothing, which is no event
 does_nothing : (hosts : List Host) (lines : ℕ) (n m : Net) → m ≡ n → Does hosts lines n (no_course n) m
@@ -80,8 +82,8 @@ does_call hosts lines round n e free log = λ h.
     record {
       ok = refl;
       left = refl;
-      holds = held_after hosts lines (running n) (running (stepped n e)) (event.Net e) [] tt once h;
-      run = run_one subnet_calls (running n) (running (stepped n e)) (event.Net e) [] once log;
+      holds = held_after hosts lines _ _ _ [] tt once h;
+      run = run_one subnet_calls _ _ _ [] once log;
     }
 
 -- a call of an IMP crosses nothing
@@ -91,7 +93,7 @@ at_log n i (Some s) call = refl
 
 delivered_log : (n : Net) (l : ℕ) (d : Direction) (o : Option Frame) → (delivered n l d o).log ≡ n.log
 delivered_log n l d None = refl
-delivered_log n l d (Some f) = at_log n _ (imp_at n.imps (far_end d (wire_at n.lines l))) _
+delivered_log n l d (Some f) = at_log n _ _ _
 
 -- ---- IMPs send their distances and send again
 
@@ -107,7 +109,7 @@ standing n i placed = by (imp_at n.imps i) refl where
   no_imp false = refl
 
   by : (o : Option State) → imp_at n.imps i ≡ o → Standing n i
-  by None down = Down down (ap (λ (o : Option State). is_imp n i && imp_is_up o) down ∙ no_imp (is_imp n i))
+  by None down = Down down (ap (λ (o : Option State). is_imp n i && imp_is_up o) down ∙ no_imp _)
   by (Some s) up =
       let there : is_imp n i ≡ true = is_there n i s placed up in
       Up s up there (ap (λ (b : Bool). b && imp_is_up (imp_at n.imps i)) there ∙ ap (λ (o : Option State). imp_is_up o) up)
@@ -120,10 +122,10 @@ does_tell hosts lines round i n = λ h. by h (standing n i h.placed) where
   by : Held hosts lines n → Standing n i → Goes (traced hosts lines) (running n) (telling round i n) (Ok tt) (running (at_imp (imp_at n.imps i) i route n))
   by h (Up s up there works) =
       subst (λ (b : Bool). Goes (traced hosts lines) (running n) (if b then calling round (net.Route i) n else no_course n) (Ok tt) (running (at_imp (imp_at n.imps i) i route n))) (sym works)
-      (does_call hosts lines round n (net.Route i) (imp_free n i s up there) (at_log n i (imp_at n.imps i) route) h)
+      (does_call hosts lines round n _ (imp_free n i s up there) (at_log n i _ route) h)
   by h (Down down idle) =
       subst (λ (b : Bool). Goes (traced hosts lines) (running n) (if b then calling round (net.Route i) n else no_course n) (Ok tt) (running (at_imp (imp_at n.imps i) i route n))) (sym idle)
-      (does_nothing hosts lines n (at_imp (imp_at n.imps i) i route n) (ap (λ (o : Option State). at_imp o i route n) down) h)
+      (does_nothing hosts lines n _ (ap (λ (o : Option State). at_imp o i route n) down) h)
 
 does_send : (hosts : List Host) (lines round i : ℕ) (n : Net) → Does hosts lines n (sending round i n) (at_imp (imp_at n.imps i) i resend n)
 does_send hosts lines round i n = λ h. by h (standing n i h.placed) where
@@ -134,11 +136,11 @@ does_send hosts lines round i n = λ h. by h (standing n i h.placed) where
   sent h b e k = subst (λ (b : Bool). Goes (traced hosts lines) (running n) (if b then calling round (net.Resend i) n else no_course n) (Ok tt) (running m)) (sym e) k
 
   holding : Held hosts lines n → (s : State) → imp_at n.imps i ≡ Some s → is_imp n i ≡ true → (b : Bool) → holds_packet s ≡ b → can_resend n i ≡ b → Goes (traced hosts lines) (running n) (sending round i n) (Ok tt) (running m)
-  holding h s up there true e can = sent h true can (does_call hosts lines round n (net.Resend i) (imp_free n i s up there) (at_log n i (imp_at n.imps i) resend) h)
+  holding h s up there true e can = sent h true can (does_call hosts lines round n _ (imp_free n i s up there) (at_log n i _ resend) h)
   holding h s up there false e can = sent h false can (does_nothing hosts lines n m (ap (λ (o : Option State). at_imp o i resend n) up ∙ none_resent n i s up e) h)
 
   by : Held hosts lines n → Standing n i → Goes (traced hosts lines) (running n) (sending round i n) (Ok tt) (running m)
-  by h (Up s up there works) = holding h s up there (holds_packet s) refl (ap (λ (b : Bool). b && says holds_packet (imp_at n.imps i)) works ∙ ap (λ (o : Option State). says holds_packet o) up)
+  by h (Up s up there works) = holding h s up there _ refl (ap (λ (b : Bool). b && says holds_packet (imp_at n.imps i)) works ∙ ap (λ (o : Option State). says holds_packet o) up)
   by h (Down down idle) =
       sent h false (ap (λ (b : Bool). b && says holds_packet (imp_at n.imps i)) idle)
       (does_nothing hosts lines n m (ap (λ (o : Option State). at_imp o i resend n) down) h)
@@ -146,12 +148,12 @@ does_send hosts lines round i n = λ h. by h (standing n i h.placed) where
 does_refresh : (hosts : List Host) (lines round i : ℕ) (n : Net) → Does hosts lines n (refreshing round i n) (refreshed n i)
 does_refresh hosts lines round i n =
     let told : Net = at_imp (imp_at n.imps i) i route n in
-    does_then hosts lines n told (at_imp (imp_at told.imps i) i resend told) (telling round i n) (sending round i) (does_tell hosts lines round i n) (does_send hosts lines round i told)
+    does_then hosts lines n told _ _ (sending round i) (does_tell hosts lines round i n) (does_send hosts lines round i told)
 
 does_refresh_all : (hosts : List Host) (lines round : ℕ) (numbers : List ℕ) (n : Net) → Does hosts lines n (all_refreshing round numbers n) (all_refreshed numbers n)
 does_refresh_all hosts lines round [] n = does_none hosts lines n
 does_refresh_all hosts lines round (i ∷ numbers) n =
-    does_then hosts lines n (refreshed n i) (all_refreshed numbers (refreshed n i)) (refreshing round i n) (all_refreshing round numbers) (does_refresh hosts lines round i n) (does_refresh_all hosts lines round numbers (refreshed n i))
+    does_then hosts lines n _ _ _ (all_refreshing round numbers) (does_refresh hosts lines round i n) (does_refresh_all hosts lines round numbers (refreshed n i))
 
 -- ---- lines deliver
 
@@ -183,13 +185,13 @@ does_deliver hosts lines round l d n live = λ h. by h (imp_at n.imps (far_end d
   by : Held hosts lines n → (o : Option State) → imp_at n.imps (far_end d (wire_at n.lines l)) ≡ o → Goes (traced hosts lines) (running n) (delivering round l d n) (Ok tt) (running m)
   by h None down =
       subst (λ (b : Bool). Goes (traced hosts lines) (running n) (if b then calling round (net.Deliver l d 0) n else no_course n) (Ok tt) (running m)) (sym (ap (λ (o : Option State). imp_is_up o) down))
-      (does_nothing hosts lines n m (none_heard n l d (slice_get (frames_on d (wire_at n.lines l)) 0) down) h)
+      (does_nothing hosts lines n m (none_heard n l d _ down) h)
   by h (Some s) up =
       subst (λ (b : Bool). Goes (traced hosts lines) (running n) (if b then calling round (net.Deliver l d 0) n else no_course n) (Ok tt) (running m)) (sym (ap (λ (o : Option State). imp_is_up o) up))
-      (does_call hosts lines round n (net.Deliver l d 0) (frame_free n l d live) (delivered_log n l d (slice_get (frames_on d (wire_at n.lines l)) 0)) h)
+      (does_call hosts lines round n _ (frame_free n l d live) (delivered_log n l d _) h)
 
 does_drop : (hosts : List Host) (lines round l : ℕ) (d : Direction) (n : Net) → 0 < live_frames n l d → Does hosts lines n (dropping round l d n) (drop_frame n l d 0)
-does_drop hosts lines round l d n live = does_call hosts lines round n (net.Drop l d 0) (frame_free n l d live) refl
+does_drop hosts lines round l d n live = does_call hosts lines round n _ (frame_free n l d live) refl
 
 does_carry : (hosts : List Host) (lines round l : ℕ) (d : Direction) (frames : ℕ) (n : Net) → Does hosts lines n (carrying round l d frames n) (carried frames l d n)
 does_carry hosts lines round l d zero n = does_none hosts lines n
@@ -204,9 +206,9 @@ does_carry hosts lines round l d (suc frames) n = by (λ k. does_carry hosts lin
   by more true e =
       let live : 0 < live_frames n l d = grind (arith, nat_tests, e) in
       let one : Does hosts lines n (then_course (delivering round l d n) (dropping round l d)) o =
-      does_then hosts lines n m o (delivering round l d n) (dropping round l d) (does_deliver hosts lines round l d n live) (does_drop hosts lines round l d m (still_live n l d (slice_get (frames_on d (wire_at n.lines l)) 0) live)) in
+      does_then hosts lines n m o _ (dropping round l d) (does_deliver hosts lines round l d n live) (does_drop hosts lines round l d m (still_live n l d _ live)) in
       subst (λ (b : Bool). Does hosts lines n (if b then then_course (then_course (delivering round l d n) (dropping round l d)) (carrying round l d frames) else no_course n) (carried frames l d o)) (sym e)
-      (does_then hosts lines n o (carried frames l d o) (then_course (delivering round l d n) (dropping round l d)) (carrying round l d frames) one (more o))
+      (does_then hosts lines n o _ _ (carrying round l d frames) one (more o))
   by more false e =
       let none : live_frames n l d ≡ 0 = grind (arith, nat_tests, e) in
       subst (λ (b : Bool). Does hosts lines n (if b then then_course (then_course (delivering round l d n) (dropping round l d)) (carrying round l d frames) else no_course n) (carried frames l d o)) (sym e)
@@ -218,8 +220,8 @@ does_turns hosts lines round (l ∷ numbers) n =
     let there : Net = turn_of l way.Forward n in
     let back : Net = turn_of l way.Back there in
     let one : Does hosts lines n (then_course (turning round l way.Forward n) (turning round l way.Back)) back =
-    does_then hosts lines n there back (turning round l way.Forward n) (turning round l way.Back) (does_carry hosts lines round l way.Forward (live_frames n l way.Forward) n) (does_carry hosts lines round l way.Back (live_frames there l way.Back) there) in
-    does_then hosts lines n back (all_turns numbers back) (then_course (turning round l way.Forward n) (turning round l way.Back)) (all_turning round numbers) one (does_turns hosts lines round numbers back)
+    does_then hosts lines n there back _ (turning round l way.Back) (does_carry hosts lines round l way.Forward (live_frames n l way.Forward) n) (does_carry hosts lines round l way.Back (live_frames there l way.Back) there) in
+    does_then hosts lines n back _ _ (all_turning round numbers) one (does_turns hosts lines round numbers back)
 
 -- a quiet round
 lines_part : ℕ → Net → Course Net
@@ -233,18 +235,18 @@ unfolding lines_part
 does_quiet hosts lines round n =
     let m : Net = all_refreshed (range_with_len 0 (length n.imps)) n in
     let one : Does hosts lines n (all_refreshing round (numbers_from 0 (length n.imps)) n) m =
-    subst (λ (is : List ℕ). Does hosts lines n (all_refreshing round is n) m) (sym (numbers_all (length n.imps))) (does_refresh_all hosts lines round (range_with_len 0 (length n.imps)) n) in
+    subst (λ (is : List ℕ). Does hosts lines n (all_refreshing round is n) m) (sym (numbers_all _)) (does_refresh_all hosts lines round _ n) in
     λ h.
     let g : Goes (traced hosts lines) (running n) (all_refreshing round (numbers_from 0 (length n.imps)) n) (Ok tt) (running m) = one h in
-    let many : numbers_from 0 (length m.lines) ≡ range_with_len 0 (length n.lines) = ap (λ k. numbers_from 0 k) (g.holds.as_many ∙ sym h.as_many) ∙ numbers_all (length n.lines) in
-    goes_then (traced hosts lines) (running n) (running m) (running (quiet_round n)) (all_refreshing round (numbers_from 0 (length n.imps)) n) (lines_part round) (Ok tt) (Ok tt) g
-    (subst (λ (ls : List ℕ). Goes (traced hosts lines) (running m) (all_turning round ls m) (Ok tt) (running (quiet_round n))) (sym many) (does_turns hosts lines round (range_with_len 0 (length n.lines)) m g.holds))
+    let many : numbers_from 0 (length m.lines) ≡ range_with_len 0 (length n.lines) = ap (λ k. numbers_from 0 k) (g.holds.as_many ∙ sym h.as_many) ∙ numbers_all _ in
+    goes_then _ _ _ _ _ (lines_part round) _ _ g
+    (subst (λ (ls : List ℕ). Goes (traced hosts lines) (running m) (all_turning round ls m) (Ok tt) (running (quiet_round n))) (sym many) (does_turns hosts lines round _ m g.holds))
 
 -- ---- takings
 
 -- a call that was refused, in a calm that continues
 pub refused : (refusal : Option CarrierFault) (grows : Bool) (old new : Kept) (f : CarrierFault) → Fails refusal grows (is_memory f) f old new → (is_halt f || is_memory f) ≡ false → (refusal ≡ Some f) × (new ≡ old)
-refused refusal grows old new f k calm = by (is_memory f) (or_second (is_halt f) (is_memory f) calm) k where
+refused refusal grows old new f k calm = by (is_memory f) (or_second _ _ calm) k where
   or_second : (a b : Bool) → (a || b) ≡ false → b ≡ false
   or_second true b h = absurd (cc)
   or_second false b h = h
@@ -274,10 +276,10 @@ takes_so hosts lines old h answer new held t goes = by answer t goes where
 
   by : (a : Result (Option Inbound) CarrierFault) → subnet_calls.takes old h a new → GoesOn (calmly (outcome_of a)) → TakesSo (quieted hosts lines) old h a new
   by (Ok (Some i)) t goes =
-      let run : (old.stopped ≡ false) × (take_refusal old.net h ≡ None) = accepts old.stopped (take_refusal old.net h) t.0 in
+      let run : (old.stopped ≡ false) × (take_refusal old.net h ≡ None) = accepts _ _ t.0 in
       let log : new.net.log ≡ crossing_of i ∷ old.net.log =
       ap (λ (k : Kept). k.net.log) t.1.1 ∙ ap (λ o. crossings_of o ++ (at_imp (imp_at old.net.imps h.imp) h.imp (λ s. to_host s h.host) old.net).log) (sym t.1.0)
-      ∙ ap (λ (log : List Crossing). crossing_of i ∷ log) (at_log old.net h.imp (imp_at old.net.imps h.imp) (λ s. to_host s h.host)) in
+      ∙ ap (λ (log : List Crossing). crossing_of i ∷ log) (at_log _ h.imp _ _) in
       let once : Happens subnet_calls old (event.Take h) new (Crossed (crossing_of i) ∷ []) = record {
         outcome = Ok tt;
         gives = (Ok (Some i), t, refl);
@@ -291,21 +293,21 @@ takes_so hosts lines old h answer new held t goes = by answer t goes where
           ok = refl;
           left = ap (λ (k : Kept). k.net) t.1.1;
           holds = (
-            held_after hosts lines old new (event.Take h) (Crossed (crossing_of i) ∷ []) tt once held.0,
-            subst (λ (k : Kept). IsSettled k.net) (sym t.1.1) (take_settled old.net h held.1),
+            held_after hosts lines old new _ _ tt once held.0,
+            subst (λ (k : Kept). IsSettled k.net) (sym t.1.1) (take_settled _ h held.1),
           );
-          run = run_one subnet_calls old new (event.Take h) (crossing_of i ∷ []) once log;
+          run = run_one subnet_calls old new _ (crossing_of i ∷ []) once log;
         },
       )
   by (Ok None) t goes =
-      let run : (old.stopped ≡ false) × (take_refusal old.net h ≡ None) = accepts old.stopped (take_refusal old.net h) t.0 in (
-        ap (λ (o : Option Inbound). is_none (take_refusal old.net h) && is_some o) (sym t.1.0) ∙ no_gift (is_none (take_refusal old.net h)),
-        t.1.1 ∙ ap (λ (n : Net). running n) (none_taken old.net h held.1 (sym t.1.0)) ∙ as_running old run.0,
+      let run : (old.stopped ≡ false) × (take_refusal old.net h ≡ None) = accepts _ _ t.0 in (
+        ap (λ (o : Option Inbound). is_none (take_refusal old.net h) && is_some o) (sym t.1.0) ∙ no_gift _,
+        t.1.1 ∙ ap (λ (n : Net). running n) (none_taken _ h held.1 (sym t.1.0)) ∙ as_running old run.0,
       )
   by (Err f) t goes =
       let calm : (is_halt f || is_memory f) ≡ false = goes_calmly f goes in
-      let w = refused (refusal_of old (λ n. take_refusal n h)) (take_grows old.net h) old new f t calm in
-      let some : take_refusal old.net h ≡ Some f = refusal_is old.stopped (take_refusal old.net h) f w.0 (or_first (is_halt f) (is_memory f) calm) in
+      let w = refused _ _ old new f t calm in
+      let some : take_refusal old.net h ≡ Some f = refusal_is _ _ f w.0 (or_first _ _ calm) in
       (ap (λ o. is_none o && is_some (taken_by_host old.net h)) some, w.1)
 
 -- ---- rounds
@@ -313,16 +315,16 @@ takes_so hosts lines old h answer new held t goes = by answer t goes where
 goes_quiet : (hosts : List Host) (lines round : ℕ) (old : Kept) (q : Result (Unit {0}) CarrierFault) (mid : Kept) → Held hosts lines old.net → Quiet subnet_calls old q mid → GoesOn q
     → Goes (traced hosts lines) old (then_course (all_refreshing round (numbers_from 0 (length old.net.imps)) old.net) (lines_part round)) q mid
 goes_quiet hosts lines round old q mid held (Ok done, rounds, is) goes =
-    let run : (old.stopped ≡ false) × (None ≡ None) = accepts old.stopped None rounds.0 in
+    let run : (old.stopped ≡ false) × (None ≡ None) = accepts _ None rounds.0 in
     let course : Course Net = then_course (all_refreshing round (numbers_from 0 (length old.net.imps)) old.net) (lines_part round) in
-    let quiet : Goes (traced hosts lines) (running old.net) course (Ok tt) (running (quiet_round old.net)) = does_quiet hosts lines round old.net held in
+    let quiet : Goes (traced hosts lines) (running old.net) course (Ok tt) (running (quiet_round old.net)) = does_quiet hosts lines round _ held in
     subst (λ (r : Result (Unit {0}) CarrierFault). Goes (traced hosts lines) old course r mid) (sym is)
     (subst (λ (k : Kept). Goes (traced hosts lines) old course (Ok tt) k) (sym rounds.1)
     (subst (λ (k : Kept). Goes (traced hosts lines) k course (Ok tt) (running (quiet_round old.net))) (as_running old run.0) quiet))
 goes_quiet hosts lines round old q mid held (Err f, rounds, is) goes =
     let calm : (is_halt f || is_memory f) ≡ false = goes_calmly f (subst GoesOn is goes) in
-    let w = refused (refusal_of old (λ n. None)) (round_grows old.net) old mid f rounds calm in
-    let bad : None ≡ Some f = refusal_is old.stopped None f w.0 (or_first (is_halt f) (is_memory f) calm) in
+    let w = refused _ _ old mid f rounds calm in
+    let bad : None ≡ Some f = refusal_is _ None f w.0 (or_first _ _ calm) in
     absurd (not_some bad)
 
 pub goes_round : (hosts : List Host) (lines : ℕ) → AllRoundsGo (traced hosts lines) round_of
@@ -330,15 +332,15 @@ unfolding lines_part
 goes_round hosts lines round old r new held (q, mid, first, more) goes =
     let imps : Course Net = all_refreshing round (numbers_from 0 (length old.net.imps)) old.net in
     let course : Course Net = then_course imps (lines_part round) in
-    let quiet : Goes (traced hosts lines) (running old.net) course (Ok tt) (running (quiet_round old.net)) = does_quiet hosts lines round old.net held in
+    let quiet : Goes (traced hosts lines) (running old.net) course (Ok tt) (running (quiet_round old.net)) = does_quiet hosts lines round _ held in
     subst (λ (c : Course Net). Goes (traced hosts lines) old c r new) (then_twice imps (lines_part round) (round_of_hosts round))
-    (goes_chain (traced hosts lines) (Quiet subnet_calls) (AllTake subnet_calls old.net.hosts) course (round_of_hosts round) old new r
+    (goes_chain _ (Quiet subnet_calls) _ course _ old new r
     (λ q mid k g. goes_quiet hosts lines round old q mid held k g)
     (λ q mid m k g.
     let settled : IsSettled mid.net = subst IsSettled (quiet.left ∙ sym m.left) (quiet_settled old.net) in
     subst (λ (hs : List Host). Goes (traced hosts lines) mid (all_takings from_subnet round hs mid.net) r new) (held.same_hosts ∙ sym m.holds.same_hosts)
-    (goes_on hosts lines mid (all_takings from_subnet round old.net.hosts mid.net) r new
-    (goes_all (quieted hosts lines) (takes_so hosts lines) round old.net.hosts mid r new (m.holds, settled) k g)))
+    (goes_on hosts lines mid _ r new
+    (goes_all _ (takes_so hosts lines) round _ mid r new (m.holds, settled) k g)))
     q mid first more goes)
 
 -- ---- the law
@@ -348,15 +350,15 @@ held_by n placed = record { placed = placed; same_hosts = refl; as_many = refl }
 
 pub elementary : (old new : Kept) (e : RawEvent) (shown : List Shown) → IsPlaced old.net → Happens subnet_calls old e new shown → Replays subnet_calls old (events_of (elements_of old.net e)) new shown
 elementary old new e shown placed k =
-    elementary_of (traced old.net.hosts (length old.net.lines)) round_of (goes_round old.net.hosts (length old.net.lines)) old new e shown (held_by old.net placed) k
+    elementary_of _ round_of (goes_round _ _) old new e shown (held_by _ placed) k
 
 pub placed_after : (old new : Kept) (e : RawEvent) (shown : List Shown) → IsPlaced old.net → Happens subnet_calls old e new shown → IsPlaced new.net
-placed_after old new (event.Out m) shown is k = placed old new (event.Out m) shown is tt k
-placed_after old new (event.Take h) shown is k = placed old new (event.Take h) shown is tt k
-placed_after old new (event.Net e) shown is k = placed old new (event.Net e) shown is tt k
+placed_after old new (event.Out m) shown is k = placed old new _ shown is tt k
+placed_after old new (event.Take h) shown is k = placed old new _ shown is tt k
+placed_after old new (event.Net e) shown is k = placed old new _ shown is tt k
 placed_after old new (event.Calm rounds) shown is k =
     let held : Held old.net.hosts (length old.net.lines) new.net =
-    calm_holds (traced old.net.hosts (length old.net.lines)) round_of (goes_round old.net.hosts (length old.net.lines)) old new rounds shown (held_by old.net is) k in
+    calm_holds _ round_of (goes_round _ _) old new rounds shown (held_by _ is) k in
     held.placed
 
 pub placed_later : (events : List RawEvent) (old new : Kept) (shown : List Shown) → IsPlaced old.net → Replays subnet_calls old events new shown → IsPlaced new.net
@@ -381,12 +383,12 @@ if_quiet true c n h = h
 if_quiet false c n h = none_events IsOfRound n
 
 call_quiet : (round : ℕ) (e : NetEvent) (n : Net) → IsOfRound (event.Net e) → AllEvents IsOfRound (calling round e n)
-call_quiet round e n is = one_events IsOfRound round (event.Net e) (stepped n e) is
+call_quiet round e n is = one_events IsOfRound round _ (stepped n e) is
 
 refresh_quiet : (round : ℕ) (numbers : List ℕ) (n : Net) → AllEvents IsOfRound (all_refreshing round numbers n)
 refresh_quiet round [] n = none_events IsOfRound n
 refresh_quiet round (i ∷ numbers) n =
-    then_events IsOfRound (refreshing round i n) (all_refreshing round numbers)
+    then_events IsOfRound _ (all_refreshing round numbers)
     (then_events IsOfRound (telling round i n) (sending round i) (if_quiet (is_working n i) _ n (call_quiet round (net.Route i) n tt)) (λ m. if_quiet (can_resend m i) _ m (call_quiet round (net.Resend i) m tt)))
     (λ m. refresh_quiet round numbers m)
 
@@ -401,7 +403,7 @@ carry_quiet round l d (suc frames) n =
 turns_quiet : (round : ℕ) (lines : List ℕ) (n : Net) → AllEvents IsOfRound (all_turning round lines n)
 turns_quiet round [] n = none_events IsOfRound n
 turns_quiet round (l ∷ lines) n =
-    then_events IsOfRound (then_course (turning round l way.Forward n) (turning round l way.Back)) (all_turning round lines)
+    then_events IsOfRound _ (all_turning round lines)
     (then_events IsOfRound (turning round l way.Forward n) (turning round l way.Back) (carry_quiet round l way.Forward (live_frames n l way.Forward) n) (λ m. carry_quiet round l way.Back (live_frames m l way.Back) m))
     (λ m. turns_quiet round lines m)
 
@@ -414,7 +416,7 @@ turns_once round lines n = All-weaker IsOfRound Once once (events_of (all_turnin
 round_once : (round : ℕ) (n : Net) → AllEvents Once (round_of round n)
 round_once round n =
     then_events Once (all_refreshing round (numbers_from 0 (length n.imps)) n) (round_from_line round 0) (refresh_once round (numbers_from 0 (length n.imps)) n)
-    (λ m. then_events Once (all_turning round (numbers_from 0 (length m.lines)) m) (round_of_hosts round) (turns_once round (numbers_from 0 (length m.lines)) m) (λ o. all_takings_events Once from_subnet (λ h. tt) round o.hosts o))
+    (λ m. then_events Once (all_turning round (numbers_from 0 (length m.lines)) m) (round_of_hosts round) (turns_once round _ m) (λ o. all_takings_events Once from_subnet (λ h. tt) round o.hosts o))
 
 pub all_one_call : (n : Net) (e : RawEvent) → All IsOneCall (events_of (elements_of n e))
 all_one_call n (event.Out m) = All-cons IsOneCall (event.Out m) [] tt (All-nil IsOneCall)
@@ -430,9 +432,9 @@ unfolding lines_part
 quiet_replays n placed =
     let imps : Course Net = all_refreshing 0 (numbers_from 0 (length n.imps)) n in
     let course : Course Net = then_course imps (lines_part 0) in
-    let g : Goes (traced n.hosts (length n.lines)) (running n) course (Ok tt) (running (quiet_round n)) = does_quiet n.hosts (length n.lines) 0 n (held_by n placed) in
-    let none : g.run.crossings ≡ [] = crossings_are g.run.crossings [] n.log (quiet_round n).log g.run.grown (round_log n) in (
+    let g : Goes (traced n.hosts (length n.lines)) (running n) course (Ok tt) (running (quiet_round n)) = does_quiet n.hosts _ 0 n (held_by n placed) in
+    let none : g.run.crossings ≡ [] = crossings_are _ [] n.log _ g.run.grown (round_log n) in (
       events_of course.elements,
-      then_events IsOfRound imps (lines_part 0) (refresh_quiet 0 (numbers_from 0 (length n.imps)) n) (λ m. turns_quiet 0 (numbers_from 0 (length m.lines)) m),
+      then_events IsOfRound imps (lines_part 0) (refresh_quiet 0 _ n) (λ m. turns_quiet 0 (numbers_from 0 (length m.lines)) m),
       subst (λ (cs : List Crossing). Replays subnet_calls (running n) (events_of course.elements) (running (quiet_round n)) (shown_crossings cs)) none g.run.replays,
     )

@@ -8,13 +8,10 @@ pub use Rattle.imp_channel.specs.declared.fault.ChannelFault.{ChannelFault}
 pub use Rattle.imp_channel.specs.declared.frame.Content.{Content}
 pub use Rattle.imp_channel.specs.declared.frame.Frame.{Frame}
 pub use Rattle.imp_channel.specs.declared.line.Received.{Received}
-pub use Rattle.imp_node.specs.Arrival.{from_line}
 pub use Rattle.imp_node.specs.Lines.{resend, route}
-pub use Rattle.imp_node.specs.Offering.{from_host}
 pub use Rattle.imp_node.specs.Pump.{pump}
 pub use Rattle.imp_node.specs.Queries.{holds_packet}
 pub use Rattle.imp_node.specs.State.{ImpTurn, State}
-pub use Rattle.imp_node.specs.Taking.{to_host}
 pub use Rattle.imp_node.specs.declared.outgoing.Outgoing.{Outgoing}
 pub use Rattle.imp_node.specs.declared.port.Port.{Port}
 pub use Rattle.imp_node.specs.declared.waiting.Message.{Message}
@@ -52,18 +49,18 @@ pub use Rattle.std.specs.Io.KnownBytes.{Appends}
 pub use Rattle.std.specs.List.{All, flat_map, range_with_len}
 pub use Rattle.std.specs.declared.cmp.Ordering.{Ordering}
 pub use Rattle.std.specs.declared.cmp.Ordering.TheVariants.{Equal, Greater, Less}
-pub use Rattle.subnet.specs.Calls.{Decided, Fails, Kept, refusal_of, running, step_grows, take_grows}
+pub use Rattle.subnet.specs.Calls.{Decided, Fails, Kept, refusal_of, running}
 pub use Rattle.subnet.specs.Events.{is_imp}
 pub use Rattle.subnet.specs.Flows.{imp_is_up}
 pub use Rattle.subnet.specs.Net.{Net, Wire, far_end, frames_on, imp_at, no_wire, port_of, wire_at}
-pub use Rattle.subnet.specs.Opening.{hosts_from, opening_subnet}
+pub use Rattle.subnet.specs.Opening.{opening_subnet}
 pub use Rattle.subnet.specs.Working.{subnet_calls}
 pub use Rattle.subnet.specs.declared.Ends.{Ends}
 pub use Rattle.subnet_trace.specs.Parts.{Imp, Line, all_flows, all_parts, part_name, parts_members, parts_of_net}
 pub use Rattle.subnet_trace.specs.Printing.{concluded_text, heard_list, known_part, named}
 pub use Rattle.subnet_trace.specs.Scopes.{HasFlowsIn, IsOnlyIn, OnlyIn, has_imp, has_line}
 pub use Rattle.subnet_trace.specs.Steps.{IsNext}
-pub use Rattle.subnet_trace.specs.Texts.{channel_text, kept_of, kept_part, line_text, next_text, source_part, sources_of}
+pub use Rattle.subnet_trace.specs.Texts.{channel_text, kept_of, kept_part, line_text, next_text, sources_of}
 pub use Rattle.subnet_trace.specs.Told.{IsOneNetwork, IsPlaced, IsReached, IsTold, SameTexts, ends_of}
 pub use Rattle.subnet_trace.specs.Traced.{subnet_inside}
 pub use Rattle.subnet_trace.specs.declared.parts.Scope.{Scope}

@@ -24,7 +24,7 @@ one_left n i is = by (is_imp n i) refl where
 pub flows_next : (n : Net) (i : ℕ) → i < length n.imps → flows_left n i ≡ flows_there n i ++ flows_left n (i + 1)
 flows_next n i lt =
     let count : length n.imps - i ≡ suc (length n.imps - (i + 1)) = omega (arith, lt) in
-    ap (λ (m : ℕ). flat_map (flows_at n) (filter (is_imp n) (range_with_len i m))) count ∙ one_left n i (range_with_len (i + 1) (length n.imps - (i + 1)))
+    ap (λ (m : ℕ). flat_map (flows_at n) (filter (is_imp n) (range_with_len i m))) count ∙ one_left n i _
 
 pub flows_over : (n : Net) (i : ℕ) → length n.imps ≤ i → flows_left n i ≡ []
 flows_over n i past = let none : length n.imps - i ≡ 0 = omega (arith, past) in ap (λ (m : ℕ). flat_map (flows_at n) (filter (is_imp n) (range_with_len i m))) none
@@ -73,9 +73,9 @@ pub two_kept : (now : List (List FlowPart)) (whole : List ℕ) (place : ℕ) (kn
     → FlowsPut now whole place known text (a ∷ b ∷ olds) (a ∷ b ∷ news) → FlowsPut now whole (place + 2) known text olds news
 two_kept now whole place known text olds news a b h = record {
   front = h.front ++ a ∷ b ∷ [];
-  count = two_places place h.front a b h.count;
-  there = h.there ∙ two_more h.front olds a b;
-  all = h.all ∙ two_more h.front news a b;
+  count = two_places place _ a b h.count;
+  there = h.there ∙ two_more _ olds a b;
+  all = h.all ∙ two_more _ news a b;
   written = ap₂ (λ (xs ys : List (List ℕ)). extended text (xs ++ (ys ++ changed_lists olds news))) (sym (no_flow_changed a)) (sym (no_flow_changed b)) ∙ h.written;
 }
 
@@ -85,9 +85,9 @@ pub two_put : (now : List (List FlowPart)) (whole : List ℕ) (place : ℕ) (kno
     → FlowsPut now whole place known text (x ∷ y ∷ olds) (a ∷ b ∷ news) → FlowsPut now whole (place + 2) later longer olds news
 two_put now whole place known later text longer olds news x y a b put added h = record {
   front = h.front ++ a ∷ b ∷ [];
-  count = two_places place h.front a b h.count;
-  there = put ∙ ap (λ (n : ℕ). slice_set (slice_set known place a) n b) after ∙ ap₂ (λ (ks : List (List FlowPart)) (n : ℕ). slice_set (slice_set ks n a) (suc n) b) h.there h.count ∙ two_set h.front olds x y a b;
-  all = h.all ∙ two_more h.front news a b;
+  count = two_places place _ a b h.count;
+  there = put ∙ ap (λ (n : ℕ). slice_set (slice_set known place a) n b) after ∙ ap₂ (λ (ks : List (List FlowPart)) (n : ℕ). slice_set (slice_set ks n a) (suc n) b) h.there h.count ∙ two_set _ olds x y a b;
+  all = h.all ∙ two_more _ news a b;
   written = ap (λ (t : List ℕ). extended t (changed_lists olds news)) (added ∙ ap₂ (λ (was wie : List FlowPart). extended text (changed_flows was a ++ changed_flows wie b)) first second)
       ∙ extended_twice text (changed_flows x a ++ changed_flows y b) (changed_lists olds news)
       ∙ ap (extended text) (append_assoc (changed_flows x a) (changed_flows y b) (changed_lists olds news)) ∙ h.written;
@@ -142,7 +142,7 @@ FlowsAt s lists new r whole i place known text = FlowsPut (all_flows new) whole 
 pub flows_start : (s : Scope) (lists : List (List FlowPart)) (new : Net) (r : HasFlowsIn s lists new) (text : List ℕ) → FlowsAt s lists new r (extended text (changed_lists lists (all_flows new))) 0 0 lists text
 flows_start s lists new r text =
     subst (λ (ns : List (List FlowPart)). FlowsPut (all_flows new) (extended text (changed_lists lists (all_flows new))) 0 lists text (flows_left r.0 0) ns) (sym (all_left new))
-    (subst (λ (os : List (List FlowPart)). FlowsPut (all_flows new) (extended text (changed_lists lists (all_flows new))) 0 lists text os (all_flows new)) (r.1 ∙ sym (all_left r.0)) (flows_begin lists (all_flows new) text))
+    (subst (λ (os : List (List FlowPart)). FlowsPut (all_flows new) (extended text (changed_lists lists (all_flows new))) 0 lists text os (all_flows new)) (r.1 ∙ sym (all_left r.0)) (flows_begin lists _ text))
 
 is_there : (n : Net) (i : ℕ) (there : Bool) → is_imp n i ≡ there → i < length n.imps → flows_left n i ≡ (if there then flows_at n i else []) ++ flows_left n (i + 1)
 is_there n i there is lt = flows_next n i lt ∙ ap (λ (b : Bool). (if b then flows_at n i else []) ++ flows_left n (i + 1)) is
@@ -168,22 +168,22 @@ pub put_at_imp : (s : Scope) (lists : List (List FlowPart)) (new : Net) (r : Has
     → later ≡ put_lists may known place (imp_at new.imps i) → longer ≡ extended text (changed_at may known place (imp_at new.imps i))
     → FlowsAt s lists new r whole i place known text → FlowsAt s lists new r whole (i + 1) (place + 2) later longer
 put_at_imp s lists new r whole i place true known later text longer lt is test put added so =
-    two_put (all_flows new) whole place known later text longer (flows_left r.0 (i + 1)) (flows_left new (i + 1)) (sources_of (imp_at r.0.imps i)) (kept_of (imp_at r.0.imps i)) (sources_of (imp_at new.imps i)) (kept_of (imp_at new.imps i)) put added
+    two_put _ whole place known later text longer _ _ _ _ _ _ put added
     (here s lists new r whole i place known text true lt is so)
 put_at_imp s lists new r whole i place false known later text longer lt is test put added so =
     subst (λ (ks : List (List FlowPart)). FlowsAt s lists new r whole (i + 1) (place + 2) ks longer) (sym put)
     (subst (λ (t : List ℕ). FlowsAt s lists new r whole (i + 1) (place + 2) known t) (sym added)
-    (two_kept (all_flows new) whole place known text (flows_left r.0 (i + 1)) (flows_left new (i + 1)) (sources_of (imp_at new.imps i)) (kept_of (imp_at new.imps i))
+    (two_kept _ whole place known text _ _ _ _
     (subst (λ o. FlowsPut (all_flows new) whole place known text (sources_of o ∷ kept_of o ∷ flows_left r.0 (i + 1)) (flows_at new i ++ flows_left new (i + 1))) (sym (r.2.imps i (sym test)))
     (here s lists new r whole i place known text true lt is so))))
 
 pub within_at : (s : Scope) (lists : List (List FlowPart)) (new : Net) (r : HasFlowsIn s lists new) (whole : List ℕ) (i place : ℕ) (known : List (List FlowPart)) (text : List ℕ) → i < length new.imps → is_imp new i ≡ true
     → FlowsAt s lists new r whole i place known text → place + 1 < length known
 within_at s lists new r whole i place known text lt is so =
-    two_within (all_flows new) whole place known text (flows_left r.0 (i + 1)) (flows_at new i ++ flows_left new (i + 1)) (sources_of (imp_at r.0.imps i)) (kept_of (imp_at r.0.imps i)) (here s lists new r whole i place known text true lt is so)
+    two_within _ whole place known text _ _ _ _ (here s lists new r whole i place known text true lt is so)
 
 pub flows_done : (s : Scope) (lists : List (List FlowPart)) (new : Net) (r : HasFlowsIn s lists new) (whole : List ℕ) (i place : ℕ) (known : List (List FlowPart)) (text : List ℕ) → length new.imps ≤ i
     → FlowsAt s lists new r whole i place known text → AllFlowsPut (all_flows new) known text whole
 flows_done s lists new r whole i place known text past so =
     let was : length r.0.imps ≤ i = omega (arith, past, r.2.places) in
-    flows_put (all_flows new) whole place known text (flows_left r.0 i) (flows_left new i) (flows_over r.0 i was) (flows_over new i past) so
+    flows_put _ whole place known text _ _ (flows_over r.0 i was) (flows_over new i past) so

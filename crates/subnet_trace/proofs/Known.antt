@@ -1,12 +1,12 @@
 -- All that is in a subnet can be printed after each event, if it could be before.
-use Rattle.subnet_trace.proofs.Common.{length-set, All, Host, HostMessage, NetEvent, Crossing, Direction, carried_by, Channel, Content, Frame, from_line, resend, route, ImpTurn, State, from_host, to_host, Port, Ends}
+use Rattle.subnet_trace.proofs.Common.{length-set, All, Host, HostMessage, NetEvent, Crossing, Direction, carried_by, Channel, Content, Frame, resend, route, ImpTurn, State, Port, Ends}
 use Rattle.std.proofs.Common.{◌≡◌, ℕ, zero, suc, ◌+◌, List, [], ◌∷◌, length, map, Option, Some, None, IfSome, slice_get, refl, ap, ◌∙◌, arith, count_by}
 use Rattle.std.proofs.lemmas.List.Elements.{All-cons, All-head, All-nil, All-set, All-tail, All-weaker}
 use Rattle.packetiser.specs.PacketFields.{PacketFields, IsPacket}
 use Rattle.packetiser.specs.Slots.{SlotState, IsPieceFor, IsSlot}
 use Rattle.script.specs.Spelling.{IsNetEvent}
-use Rattle.subnet.specs.Events.{at_imp, deliver, delivered, drop_frame, imp_started, imp_stopped, offer_out, quiet_round, site_at, stepped, step_refusal, take_in, hosts_at, started_imp}
-use Rattle.subnet.specs.Net.{Net, Wire, ends_at, far_end, frames_on, imp_at, port_of, wire_at, with_turn}
+use Rattle.subnet.specs.Events.{at_imp, deliver, delivered, drop_frame, offer_out, quiet_round, site_at, stepped, step_refusal, take_in, hosts_at, started_imp}
+use Rattle.subnet.specs.Net.{Net, Wire, ends_at, far_end, frames_on, imp_at, port_of, wire_at}
 use Rattle.subnet.specs.Opening.{opened_from, opened_imp, opening_subnet, empty_wire}
 use Rattle.subnet.specs.Sound.{IsSound, IsAt}
 use Rattle.subnet_trace.specs.Told.{IsChannelTold, IsContentTold, IsFlowNamed, IsFrameTold, IsHeardTold, IsKeptTold, IsLineTold, IsOneNetwork, IsPacketTold, IsPieceTold, IsPlaced, IsPortTold, IsSlotTold, IsSourceTold, IsTold, IsToldAt}
@@ -17,7 +17,7 @@ use Rattle.imp_channel.proofs.lemmas.{ContentHas}
 use Rattle.subnet.specs.Routed.{FrameTells, HeardVector, ImpHeard, TellsVector, WireTells}
 use Rattle.subnet.specs.Working.{IsWhole}
 use Rattle.subnet.proofs.lemmas.{FrameHas, GotHas, ImpHas, Keeps, NetHas, WireHas, WireHolds, deliver_sound, drop_sound, dropped_holds, got_has, imp_has, packets_net, put_all_holds, resend_sound, round_keeps, route_sound, way_holds, wire_holds}
-use Rattle.subnet_trace.proofs.Knowing.{ContentFits, FrameFits, Knows, TurnKnows, abandon_knows, ask_knows, end_down_knows, end_up_knows, forget_knows, from_host_knows, from_line_knows, give_up_knows, host_down_knows, host_up_knows, opening_knows, resend_knows, route_knows, started_knows, to_host_knows}
+use Rattle.subnet_trace.proofs.Knowing.{ContentFits, FrameFits, Knows, TurnKnows, abandon_knows, ask_knows, claim_knows, end_down_knows, end_up_knows, forget_knows, from_host_knows, from_line_knows, give_up_knows, host_down_knows, host_up_knows, opening_knows, resend_knows, route_knows, started_knows, to_host_knows}
 use Rattle.subnet_trace.proofs.Rest.{at_keeps, drop_keeps, opening, step_keeps}
 use Rattle.subnet_trace.proofs.Tables.{table_all}
 
@@ -59,27 +59,27 @@ imp_knows (o ∷ imps) (suc i) all = imp_knows imps i (All-tail ImpKnows o imps 
 call_known : {o : Net} (n : Net) (i : ℕ) (call : State → ImpTurn) (log : List Crossing) → ((s : State) → Knows s → TurnKnows (call s)) → IsKnown o n → IsKnown o (record (at_imp (imp_at n.imps i) i call n) { log = log })
 call_known {o} n i call log keeps is = by (imp_at n.imps i) (imp_knows n.imps i is.imps) ((at_keeps n i call log).placed is.there) (at_keeps n i call log).network where
   by : (here : Option State) → ImpKnows here → IsPlaced (record (at_imp here i call n) { log = log }) → IsOneNetwork n (record (at_imp here i call n) { log = log }) → IsKnown o (record (at_imp here i call n) { log = log })
-  by None knows there same = record { imps = is.imps; lines = is.lines; there = there; places = is.places; network = one_network o n (record n { log = log }) is.network same }
+  by None knows there same = record { imps = is.imps; lines = is.lines; there = there; places = is.places; network = one_network o n _ is.network same }
   by (Some s) knows there same =
       let turn : TurnKnows (call s) = keeps s knows in
       record {
         imps = All-set ImpKnows n.imps i (Some (call s).state) turn.state is.imps;
-        lines = put_all_holds FrameFits n.lines i (call s).frames is.lines turn.frames;
+        lines = put_all_holds FrameFits _ i _ is.lines turn.frames;
         there = there;
         places = length-set n.imps i (Some (call s).state) ∙ is.places;
-        network = one_network o n (record (with_turn i (call s) n) { log = log }) is.network same;
+        network = one_network o n _ is.network same;
       }
 
 pub offer_known : {o : Net} (n : Net) (m : HostMessage) → IsFlowNamed m.flow → IsKnown o n → IsKnown o (offer_out n m)
-offer_known n m named is = call_known n m.flow.source.imp (λ s. from_host s m) _ (λ s. from_host_knows m s named) is
+offer_known n m named is = call_known n _ _ _ (λ s. from_host_knows m s named) is
 
 pub take_known : {o : Net} (n : Net) (h : Host) → IsKnown o n → IsKnown o (take_in n h)
-take_known n h is = call_known n h.imp (λ s. to_host s h.host) _ (to_host_knows h.host) is
+take_known n h is = call_known n h.imp _ _ (to_host_knows h.host) is
 
 -- ---- frames that are delivered
 
 carried_told : (c : Content) → ContentHas IsPacket c → All IsPacketTold (carried_by c)
-carried_told (content.Packet carried) has = All-cons IsPacketTold carried.packet [] (packet_told carried.packet has) (All-nil IsPacketTold)
+carried_told (content.Packet carried) has = All-cons IsPacketTold carried.packet [] (packet_told _ has) (All-nil IsPacketTold)
 carried_told content.Nothing has = All-nil IsPacketTold
 carried_told (content.Routes distances) has = All-nil IsPacketTold
 
@@ -89,21 +89,21 @@ deliver_known {o} n l d k sound is = by (slice_get (frames_on d (wire_at n.lines
   has = packets_net IsPacket n sound.formats
 
   got : GotHas IsPacket (slice_get (frames_on d (wire_at n.lines l)) k)
-  got = got_has IsPacket (frames_on d (wire_at n.lines l)) k (way_holds (FrameHas IsPacket) d (wire_at n.lines l) (wire_holds (FrameHas IsPacket) n.lines l has.lines))
+  got = got_has IsPacket _ k (way_holds _ d _ (wire_holds _ _ l has.lines))
 
   by : (f : Option Frame) → GotHas IsPacket f → IsKnown o (delivered n l d f)
   by None here = is
   by (Some f) here =
       let i : ℕ = far_end d (wire_at n.lines l) in
-      call_known n i (λ s. from_line s (port_of n.lines i l) f) _ (λ s. from_line_knows (port_of n.lines i l) f s (carried_told f.content here)) is
+      call_known n i _ _ (λ s. from_line_knows (port_of n.lines i l) f s (carried_told _ here)) is
 
 drop_known : {o : Net} (n : Net) (l : ℕ) (d : Direction) (k : ℕ) → IsKnown o n → IsKnown o (drop_frame n l d k)
 drop_known {o} n l d k is = record {
   imps = is.imps;
-  lines = dropped_holds FrameFits n.lines l d k is.lines;
+  lines = dropped_holds FrameFits _ l d k is.lines;
   there = is.there;
   places = is.places;
-  network = one_network o n (drop_frame n l d k) is.network (drop_keeps n l d k).network;
+  network = one_network o n _ is.network (drop_keeps n l d k).network;
 }
 
 resend_known : {o : Net} (n : Net) (i : ℕ) → IsKnown o n → IsKnown o (at_imp (imp_at n.imps i) i resend n)
@@ -136,6 +136,7 @@ step_known n (net.Drop l d k) valid ok sound is = drop_known n l d k is
 step_known n (net.Garble l d k) valid ok sound is = drop_known n l d k is
 step_known n (net.Resend i) valid ok sound is = resend_known n i is
 step_known n (net.Route i) valid ok sound is = route_known n i is
+step_known n (net.Claim i) valid ok sound is = call_known n i _ _ claim_knows is
 step_known n (net.EndDown i l) valid ok sound is = call_known n i _ _ (end_down_knows (port_of n.lines i l)) is
 step_known n (net.EndUp i l) valid ok sound is = call_known n i _ _ (end_up_knows (port_of n.lines i l)) is
 step_known {o} n (net.ImpDown i) valid ok sound is = record {
@@ -143,7 +144,7 @@ step_known {o} n (net.ImpDown i) valid ok sound is = record {
   lines = is.lines;
   there = (step_keeps n (net.ImpDown i) ok).placed is.there;
   places = length-set n.imps i None ∙ is.places;
-  network = one_network o n (imp_stopped n i) is.network (step_keeps n (net.ImpDown i) ok).network;
+  network = one_network o n _ is.network (step_keeps n (net.ImpDown i) ok).network;
 }
 step_known {o} n (net.ImpUp i) valid ok sound is =
     let hosts : ℕ = hosts_at (site_at n i) in
@@ -153,14 +154,14 @@ step_known {o} n (net.ImpUp i) valid ok sound is =
       lines = is.lines;
       there = (step_keeps n (net.ImpUp i) ok).placed is.there;
       places = length-set n.imps i (Some (started_imp i hosts ports)) ∙ is.places;
-      network = one_network o n (imp_started n i) is.network (step_keeps n (net.ImpUp i) ok).network;
+      network = one_network o n _ is.network (step_keeps n (net.ImpUp i) ok).network;
     }
 step_known n (net.HostDown h) valid ok sound is = call_known n h.imp _ _ (host_down_knows h.host) is
 step_known n (net.HostUp h) valid ok sound is = call_known n h.imp _ _ (host_up_knows h.host) is
-step_known n (net.GiveUp f) valid ok sound is = call_known n f.source.imp _ _ (λ s. give_up_knows f s (flow_named f valid)) is
+step_known n (net.GiveUp f) valid ok sound is = call_known n _ _ _ (λ s. give_up_knows f s (flow_named f valid)) is
 step_known n (net.Forget at from) valid ok sound is = call_known n at _ _ (forget_knows from) is
-step_known n (net.Abandon f) valid ok sound is = call_known n f.destination.imp _ _ (abandon_knows f) is
-step_known n (net.Ask f) valid ok sound is = call_known n f.source.imp _ _ (ask_knows f) is
+step_known n (net.Abandon f) valid ok sound is = call_known n _ _ _ (abandon_knows f) is
+step_known n (net.Ask f) valid ok sound is = call_known n _ _ _ (ask_knows f) is
 
 -- ---- the opening
 
@@ -169,7 +170,7 @@ opened_knows i [] ports = All-nil ImpKnows
 opened_knows i (site ∷ sites) ports = All-cons ImpKnows (opened_imp i site (ports i)) (opened_from (i + 1) sites ports) (at site) (opened_knows (i + 1) sites ports) where
   at : (o : Option ℕ) → ImpKnows (opened_imp i o (ports i))
   at None = tt
-  at (Some hosts) = opening_knows i hosts (ports i)
+  at (Some hosts) = opening_knows i hosts _
 
 opened_places : (i : ℕ) (sites : List (Option ℕ)) (ports : ℕ → ℕ) → length (opened_from i sites ports) ≡ length sites
 opened_places i [] ports = refl
@@ -191,14 +192,14 @@ opening_known hosts sites ends = record {
 -- ---- so it is printed
 
 frame_told : (c : Content) → ContentFits c → TellsVector c → ContentHas IsPacket c → IsContentTold c
-frame_told (content.Packet carried) fits tells has = record { channel = fits; packet = packet_told carried.packet has }
+frame_told (content.Packet carried) fits tells has = record { channel = fits; packet = packet_told _ has }
 frame_told content.Nothing fits tells has = tt
 frame_told (content.Routes distances) fits tells has = tells
 
 frames_told : (frames : List Frame) → All FrameFits frames → All FrameTells frames → All (FrameHas IsPacket) frames → All IsFrameTold frames
 frames_told [] fits tells has = All-nil IsFrameTold
 frames_told (f ∷ frames) fits tells has =
-    All-cons IsFrameTold f frames (frame_told f.content (All-head FrameFits f frames fits) (All-head FrameTells f frames tells) (All-head (FrameHas IsPacket) f frames has))
+    All-cons IsFrameTold f frames (frame_told _ (All-head FrameFits f frames fits) (All-head FrameTells f frames tells) (All-head (FrameHas IsPacket) f frames has))
     (frames_told frames (All-tail FrameFits f frames fits) (All-tail FrameTells f frames tells) (All-tail (FrameHas IsPacket) f frames has))
 
 lines_told : (lines : List Wire) → All (WireHolds FrameFits) lines → All WireTells lines → All (WireHas IsPacket) lines → All IsLineTold lines
@@ -207,7 +208,7 @@ lines_told (w ∷ ws) fits tells has =
     let f : WireHolds FrameFits w = All-head (WireHolds FrameFits) w ws fits in
     let t : WireTells w = All-head WireTells w ws tells in
     let h : WireHas IsPacket w = All-head (WireHas IsPacket) w ws has in
-    All-cons IsLineTold w ws (record { forward = frames_told w.forward f.forward t.forward h.forward; back = frames_told w.back f.back t.back h.back })
+    All-cons IsLineTold w ws (record { forward = frames_told _ f.forward t.forward h.forward; back = frames_told w.back f.back t.back h.back })
     (lines_told ws (All-tail (WireHolds FrameFits) w ws fits) (All-tail WireTells w ws tells) (All-tail (WireHas IsPacket) w ws has))
 
 packets_told : (ps : List PacketFields) → All IsPacket ps → All IsPacketTold ps
@@ -238,9 +239,9 @@ imp_told i (Some s) sound knows heard has = record {
   hosts = knows.hosts;
   ports = All-weaker (λ (p : Port). All (λ (c : Channel). IfSome c.packet IsPacket) p.line.sending) IsPortTold port_told s.ports has.lines;
   routes = All-weaker HeardVector IsHeardTold heard_told s.routes.heard heard;
-  store = packets_told s.store has.store;
+  store = packets_told _ has.store;
   slots = All-weaker IsSlot IsSlotTold slot_told s.slots sound.slots.sound;
-  sources = table_all IsSourceTold s.sources knows.sources;
+  sources = table_all IsSourceTold _ knows.sources;
   kept = table_all IsKeptTold s.kept knows.kept;
 }
 
@@ -254,7 +255,7 @@ told n whole known = record {
   places = known.places;
   there = known.there;
   imps = λ i. imp_told i (imp_at n.imps i) (whole.sound.imps i) (imp_knows n.imps i known.imps) (imp_heard n.imps i whole.routed.imps) (imp_has IsPacket n.imps i has.imps);
-  lines = lines_told n.lines known.lines whole.routed.lines has.lines;
+  lines = lines_told _ known.lines whole.routed.lines has.lines;
 } where
   has : NetHas IsPacket n
   has = packets_net IsPacket n whole.sound.formats

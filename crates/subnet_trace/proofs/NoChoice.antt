@@ -1,5 +1,5 @@
 -- The calls of a subnet leave a replay no choice.
-use Rattle.subnet_trace.proofs.Common.{true, ◌≡◌, ◌||◌, Bool, false, [], Option, None, Result, Ok, Err, sym, ap, subst, ◌∙◌, false≢true, Host, GoesOn, outcome_of, Fails, Kept, refusal_of, running, Decided, is_halt, is_memory, CarrierFault, Inbound}
+use Rattle.subnet_trace.proofs.Common.{true, ◌≡◌, ◌||◌, Bool, false, [], Option, None, Result, Ok, Err, sym, ap, subst, ◌∙◌, false≢true, Host, GoesOn, outcome_of, Fails, Kept, refusal_of, running, Decided, CarrierFault, Inbound}
 use Rattle.subnet.specs.Working.{subnet_calls, SubnetRound, SubnetTake}
 use Rattle.subnet.proofs.lemmas.{round_log, take_log}
 use Rattle.replay.specs.Settled.{AreSettled, Grows, SameEnd}
@@ -13,7 +13,7 @@ decided : {T : Type 0} (refusal : Option CarrierFault) (grows : Bool) (Gives : T
     → IsDecided refusal Gives old r new
 decided refusal grows Gives old (Ok x) new h goes = h
 decided refusal grows Gives old (Err f) new h goes =
-    subst (λ (memory : Bool). Fails refusal grows memory f old new) (or_second (is_halt f) (is_memory f) goes) h
+    subst (λ (memory : Bool). Fails refusal grows memory f old new) (or_second _ _ goes) h
 
 one_call : (refusal : Option CarrierFault) (grows : Bool) (left old : Kept) (r q : Result (Unit {0}) CarrierFault)
     (new other : Kept)
@@ -21,8 +21,8 @@ one_call : (refusal : Option CarrierFault) (grows : Bool) (left old : Kept) (r q
     → Decided refusal grows (λ done. other ≡ left) old other q → GoesOn q → SameEnd r q new other
 one_call refusal grows left old r q new other h goes k on =
     same_step refusal left old r q new other
-    (decided refusal grows (λ done. new ≡ left) old r new h (goes_as r goes))
-    (decided refusal grows (λ done. other ≡ left) old q other k (goes_as q on))
+    (decided refusal grows _ old r new h (goes_as r goes))
+    (decided refusal grows _ old q other k (goes_as q on))
 
 one_take : (old : Kept) (g : Host) (r q : Result (Option Inbound) CarrierFault) (new other : Kept)
     → SubnetTake old g r new → GoesOn (outcome_of r) → SubnetTake old g q other → GoesOn (outcome_of q)
@@ -35,8 +35,8 @@ one_take old g r q new other h goes k on =
     let refusal : Option CarrierFault = refusal_of old (λ n. events.take_refusal n g) in
     same_answer refusal P Q old r q new other
     (λ x y a b. (a.0 ∙ sym b.0, a.1 ∙ sym b.1))
-    (decided refusal (subnet.take_grows old.net g) P old r new h (goes_back r goes))
-    (decided refusal (subnet.take_grows old.net g) Q old q other k (goes_back q on))
+    (decided refusal _ P old r new h (goes_back r goes))
+    (decided refusal _ Q old q other k (goes_back q on))
 
 failed_log : (refusal : Option CarrierFault) (grows memory : Bool) (f : CarrierFault) (old new : Kept)
     → Fails refusal grows memory f old new → new.net.log ≡ old.net.log
@@ -45,8 +45,8 @@ failed_log refusal grows false f old new h = ap (λ (k : Kept). k.net.log) h.1
 
 refused_take : (old : Kept) (g : Host) (f : CarrierFault) (new : Kept) → SubnetTake old g (Err f) new
     → new.net.log ≡ old.net.log
-refused_take old g f new h = failed_log (refusal_of old (λ n. events.take_refusal n g))
-    (subnet.take_grows old.net g) (is_memory f) f old new h
+refused_take old g f new h = failed_log _
+    _ _ f old new h
 
 take_grew : (old : Kept) (g : Host) (r : Result (Option Inbound) CarrierFault) (new : Kept)
     → SubnetTake old g r new → Grows subnet_calls old new
@@ -60,7 +60,7 @@ take_grew old g (Err f) new h = record { crossings = []; grown = refused_take ol
 round_logs : (old : Kept) (r : Result (Unit {0}) CarrierFault) (new : Kept) → SubnetRound old r new
     → new.net.log ≡ old.net.log
 round_logs old (Ok done) new h = ap (λ (k : Kept). k.net.log) h.1 ∙ round_log old.net
-round_logs old (Err f) new h = failed_log (refusal_of old (λ n. None)) _ (is_memory f) f old new h
+round_logs old (Err f) new h = failed_log _ _ _ f old new h
 
 pub subnet_settled : AreSettled subnet_calls
 subnet_settled = record {

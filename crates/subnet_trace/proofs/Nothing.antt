@@ -4,7 +4,7 @@ use Rattle.std.proofs.lemmas.List.{nil_from_length, set-get_or, length-append}
 use Rattle.imp_node.specs.State.{ImpTurn, State, host_at}
 use Rattle.imp_node.specs.Taking.{taken_by, to_host, first_of}
 use Rattle.subnet.specs.Events.{at_imp, carried, crossings_of, deliver, delivered, drop_frame, take_in, taken_by_host, given_at, logging}
-use Rattle.subnet.specs.Net.{Net, Wire, far_end, followed_by, frames_on, imp_at, line_from, no_wire, put_all, put_on, put_one, wire_at, with_frame, with_turn, line_places}
+use Rattle.subnet.specs.Net.{Net, Wire, far_end, followed_by, frames_on, imp_at, no_wire, put_all, put_on, put_one, wire_at, with_frame, with_turn, line_places}
 use Rattle.subnet_trace.specs.Elements.{live_frames}
 use Rattle.interface.specs.declared.event.Direction.TheVariants as way
 use Rattle.imp_node.proofs.lemmas.{resending_rests}
@@ -35,7 +35,7 @@ none_taken_at n h settled none = ap (λ o. logging (crossings_of o) (at_imp (imp
   by : (o : Option State) → imp_at n.imps h.imp ≡ o → given_at o h.host ≡ None → at_imp o h.imp (λ s. to_host s h.host) n ≡ n
   by None down none = refl
   by (Some s) up none =
-      let same : taken_by h.host (host_at s h.host).answers (host_at s h.host).queue s ≡ s = nothing_waits s h.host (host_at s h.host).answers (host_at s h.host).queue none in
+      let same : taken_by h.host (host_at s h.host).answers (host_at s h.host).queue s ≡ s = nothing_waits s h.host _ _ none in
       ap (λ (t : ImpTurn). with_turn h.imp t n) (ap (λ (t : State). pump [] t) same ∙ settled s up) ∙ unmoved n h.imp s up
 
 pub none_taken : (n : Net) (h : Host) → IsSettled n → taken_by_host n h ≡ None → take_in n h ≡ n
@@ -57,7 +57,7 @@ dropping_none way.Back w none =
 
 none_dropped : (n : Net) (l : ℕ) (d : Direction) → live_frames n l d ≡ 0 → drop_frame n l d 0 ≡ n
 none_dropped n l d none =
-    ap (λ (ws : List Wire). record n { lines = ws }) (ap (λ (w : Wire). slice_set n.lines l w) (dropping_none d (wire_at n.lines l) (no_frames n l d none)) ∙ set-get_or n.lines l no_wire)
+    ap (λ (ws : List Wire). record n { lines = ws }) (ap (λ (w : Wire). slice_set n.lines l w) (dropping_none d _ (no_frames n l d none)) ∙ set-get_or n.lines l no_wire)
 
 -- is carried as often as one likes, and nothing changes
 pub none_carried : (count : ℕ) (n : Net) (l : ℕ) (d : Direction) → live_frames n l d ≡ 0 → carried count l d n ≡ n
@@ -87,21 +87,21 @@ IsLive ws l d = 0 < length (frames_on d (wire_at ws l))
 
 put_live : (ws : List Wire) (i : ℕ) (f : Frame) (o : Option ℕ) (l : ℕ) (d : Direction) → IsLive ws l d → IsLive (put_on ws i f o) l d
 put_live ws i f None l d live = live
-put_live ws i f (Some k) l d live = by (set_at ws k l (with_frame i f (wire_at ws k)) no_wire) where
+put_live ws i f (Some k) l d live = by (set_at ws k l _ no_wire) where
   new : List Wire
   new = slice_set ws k (with_frame i f (wire_at ws k))
 
   by : ((l ≡ k) × (wire_at new l ≡ with_frame i f (wire_at ws k))) ⊎ (wire_at new l ≡ wire_at ws l) → IsLive new l d
-  by (inl (same, is)) = subst (λ (w : Wire). 0 < length (frames_on d w)) (sym is) (framed_live d i f (wire_at ws k) (subst (λ (j : ℕ). IsLive ws j d) same live))
+  by (inl (same, is)) = subst (λ (w : Wire). 0 < length (frames_on d w)) (sym is) (framed_live d i f _ (subst (λ (j : ℕ). IsLive ws j d) same live))
   by (inr is) = subst (λ (w : Wire). 0 < length (frames_on d w)) (sym is) live
 
 all_live : (outs : List Outgoing) (ws : List Wire) (i l : ℕ) (d : Direction) → IsLive ws l d → IsLive (put_all ws i outs) l d
 all_live [] ws i l d live = live
-all_live (out ∷ outs) ws i l d live = all_live outs (put_one ws i out) i l d (put_live ws i out.frame (line_from 0 ws i out.port) l d live)
+all_live (out ∷ outs) ws i l d live = all_live outs (put_one ws i out) i l d (put_live ws i _ _ l d live)
 
 at_live : (n : Net) (i : ℕ) (o : Option State) (call : State → ImpTurn) (l : ℕ) (d : Direction) → IsLive n.lines l d → IsLive (at_imp o i call n).lines l d
 at_live n i None call l d live = live
-at_live n i (Some s) call l d live = all_live (call s).frames n.lines i l d live
+at_live n i (Some s) call l d live = all_live (call s).frames _ i l d live
 
 pub still_live : (n : Net) (l : ℕ) (d : Direction) (o : Option Frame) → 0 < live_frames n l d → 0 < live_frames (delivered n l d o) l d
 still_live n l d None live = live

@@ -5,7 +5,7 @@ use Rattle.packetiser.specs.Slots.{SlotState}
 use Rattle.routing.specs.Vector.{infinite, IsVector}
 use Rattle.imp_node.specs.State.{HostState}
 use Rattle.trace.proofs.lemmas.{AreClosed, IsClosed, Spelled, also_closed, decimal_closed, first_same, lists_spelled, member_once, none_closed, object_closed, object_once, rest_same, short_once, decimal_lacks, member_closed}
-use Rattle.subnet_trace.specs.Texts.{bit_text, bits_text, channel_text, content_members, distances_text, finite_from, frame_text, heard_text, host_object, next_from, next_members, packet_text, port_object, slot_text, told_text, whole_text}
+use Rattle.subnet_trace.specs.Texts.{bits_text, channel_text, content_members, distances_text, finite_from, frame_text, heard_text, host_object, next_from, next_members, packet_text, port_object, slot_text, told_text, whole_text}
 use Rattle.subnet_trace.specs.Told.{IsAnswerTold, IsChannelTold, IsContentTold, IsFrameTold, IsHeardTold, IsHostTold, IsMessageTold, IsPacketTold, IsPieceTold, IsPortTold, IsSlotTold}
 use Rattle.imp_channel.specs.declared.frame.Content.TheVariants as content
 use Rattle.script.proofs.lemmas.{SameCut, same_cut}
@@ -14,7 +14,7 @@ use Rattle.subnet_trace.proofs.Spelling.{bit_spelled, bits_spelled, bool_spelled
 use Rattle.subnet_trace.proofs.Spelling.{none_left}
 
 pub null_closed : IsClosed (codes "null")
-null_closed = word_closed 110 (codes "ull") refl
+null_closed = word_closed 110 _ refl
 
 -- ---- distances
 
@@ -25,7 +25,7 @@ named name value = ap (λ zs. 34 ∷ zs) (append_assoc name (34 ∷ []) (58 ∷ 
 apart : (i k : ℕ) (v w : List ℕ) → i < k → IsShort k → member (decimal k) w ≡ member (decimal i) v → ⊥
 apart i k v w less small e =
     let low : IsShort i = omega (arith, less, small) in
-    let cut : SameCut (decimal k) (58 ∷ w) (decimal i) (58 ∷ v) = same_cut 34 (decimal k) (58 ∷ w) (decimal i) (58 ∷ v) (decimal_lacks 34 k (lit< tt)) (decimal_lacks 34 i (lit< tt)) (rest_same (sym (named (decimal k) w) ∙ e ∙ named (decimal i) v)) in
+    let cut : SameCut (decimal k) (58 ∷ w) (decimal i) (58 ∷ v) = same_cut 34 (decimal k) (58 ∷ w) (decimal i) (58 ∷ v) (decimal_lacks 34 k (lit< tt)) (decimal_lacks 34 i (lit< tt)) (rest_same (sym (named _ w) ∙ e ∙ named _ v)) in
     let same : k ≡ i = short_once k i small low cut.front in
     absurd (omega (arith, less, same))
 
@@ -60,7 +60,7 @@ finite_once i (x ∷ ds) (y ∷ es) long p q small e =
 
     by : (finite_from (i + 1) ds ≡ finite_from (i + 1) es → ds ≡ es) → (b : Bool) → nat_lt x infinite ≡ b → (c : Bool) → nat_lt y infinite ≡ c → one_from b i x ++ finite_from (i + 1) ds ≡ one_from c i y ++ finite_from (i + 1) es → x ∷ ds ≡ y ∷ es
     by more true f true g h =
-        let value : decimal x ≡ decimal y = member_once (decimal i) (decimal x) (decimal y) (first_same h) in
+        let value : decimal x ≡ decimal y = member_once _ _ _ (first_same h) in
         here (short_once x y (omega (arith, All-head P x ds p)) (omega (arith, All-head P y es q)) value) (more (rest_same h))
     by more true f false g h = absurd (later i (i + 1) (decimal x) es (finite_from (i + 1) ds) (omega arith) (omega (arith, shifted)) (sym h))
     by more false f true g h = absurd (later i (i + 1) (decimal y) ds (finite_from (i + 1) es) (omega arith) (omega (arith, small)) h)
@@ -70,14 +70,14 @@ pub finite_closed : (i : ℕ) (ds : List ℕ) → All IsClosed (finite_from i ds
 finite_closed i [] = All-nil IsClosed
 finite_closed i (d ∷ ds) = by (finite_closed (i + 1) ds) (nat_lt d infinite) where
   by : All IsClosed (finite_from (i + 1) ds) → (finite : Bool) → All IsClosed (one_from finite i d ++ finite_from (i + 1) ds)
-  by more true = All-cons IsClosed (member (decimal i) (decimal d)) (finite_from (i + 1) ds) (member_closed (decimal i) (decimal d) (decimal_lacks 34 i (lit< tt)) (decimal_closed d)) more
+  by more true = All-cons IsClosed (member (decimal i) (decimal d)) (finite_from (i + 1) ds) (member_closed _ _ (decimal_lacks 34 i (lit< tt)) (decimal_closed d)) more
   by more false = more
 
 pub distances_spelled : Spelled distances_text IsVector
 distances_spelled = record {
   closed = λ ds is. object_closed (finite_from 1 ds) (finite_closed 1 ds);
   once = λ ds es p q e. finite_once 1 ds es (p.one_each ∙ sym q.one_each) p.in_range q.in_range (omega (arith, p.one_each))
-      (object_once (finite_from 1 ds) (finite_from 1 es) (finite_closed 1 ds) (finite_closed 1 es) e);
+      (object_once _ _ (finite_closed 1 ds) (finite_closed 1 es) e);
 }
 
 heard_closed : (o : Option (List ℕ)) → IsHeardTold o → IsClosed (heard_text o)
@@ -103,7 +103,7 @@ next_closed t [] = All-nil IsClosed
 next_closed t (imp ∷ imps) = by (next_closed t imps) (next_of t imp) where
   by : All IsClosed (next_from t imps) → (o : Option ℕ) → All IsClosed (next_members imp o ++ next_from t imps)
   by more None = more
-  by more (Some port) = All-cons IsClosed (member (decimal imp) (decimal port)) (next_from t imps) (member_closed (decimal imp) (decimal port) (decimal_lacks 34 imp (lit< tt)) (decimal_closed port)) more
+  by more (Some port) = All-cons IsClosed (member (decimal imp) (decimal port)) (next_from t imps) (member_closed _ _ (decimal_lacks 34 imp (lit< tt)) (decimal_closed port)) more
 
 pub ports_closed : (t : Table) (imps : List ℕ) → AreClosed (next_from t imps)
 ports_closed t imps = record { all = next_closed t imps }
@@ -120,9 +120,9 @@ content_closed (content.Routes distances) is = also_closed (codes "routes") refl
 
 carriage_once : (c d : Carriage) → IsContentTold (content.Packet c) → IsContentTold (content.Packet d) → content_members (content.Packet c) ≡ content_members (content.Packet d) → c ≡ d
 carriage_once c d p q e =
-    let channel : c.channel ≡ d.channel = short_once c.channel d.channel p.channel q.channel (member_once (codes "channel") (decimal c.channel) (decimal d.channel) (first_same e)) in
-    let bit : c.bit ≡ d.bit = bit_spelled.once c.bit d.bit tt tt (member_once (codes "bit") (bit_text c.bit) (bit_text d.bit) (first_same (rest_same e))) in
-    let packet : c.packet ≡ d.packet = packet_spelled.once c.packet d.packet p.packet q.packet (member_once (codes "packet") (packet_text c.packet) (packet_text d.packet) (first_same (rest_same (rest_same e)))) in
+    let channel : c.channel ≡ d.channel = short_once _ _ p.channel q.channel (member_once (codes "channel") _ _ (first_same e)) in
+    let bit : c.bit ≡ d.bit = bit_spelled.once c.bit d.bit tt tt (member_once (codes "bit") _ _ (first_same (rest_same e))) in
+    let packet : c.packet ≡ d.packet = packet_spelled.once c.packet d.packet p.packet q.packet (member_once (codes "packet") _ _ (first_same (rest_same (rest_same e)))) in
     λ i. record { channel = channel i; bit = bit i; packet = packet i }
 
 content_once : (c d : Content) → IsContentTold c → IsContentTold d → content_members c ≡ content_members d → c ≡ d
@@ -134,19 +134,19 @@ content_once content.Nothing content.Nothing p q e = refl
 content_once content.Nothing (content.Routes es) p q e = absurd (none_left e)
 content_once (content.Routes ds) (content.Packet d) p q e = absurd (none_left (rest_same e))
 content_once (content.Routes ds) content.Nothing p q e = absurd (none_left (sym e))
-content_once (content.Routes ds) (content.Routes es) p q e = ap (λ (zs : List ℕ). content.Routes zs) (distances_spelled.once ds es p q (member_once (codes "routes") (distances_text ds) (distances_text es) (first_same e)))
+content_once (content.Routes ds) (content.Routes es) p q e = ap (λ (zs : List ℕ). content.Routes zs) (distances_spelled.once ds es p q (member_once (codes "routes") _ _ (first_same e)))
 
 abbrev frame_members : Frame → List (List ℕ)
 frame_members f = member (codes "acks") (quoted (bits_text f.acks)) ∷ content_members f.content
 
 frame_members_closed : (f : Frame) → IsFrameTold f → AreClosed (frame_members f)
-frame_members_closed f is = also_closed (codes "acks") refl (bits_spelled.closed f.acks tt) (content_closed f.content is)
+frame_members_closed f is = also_closed (codes "acks") refl (bits_spelled.closed f.acks tt) (content_closed _ is)
 
 frame_once : (f g : Frame) → IsFrameTold f → IsFrameTold g → frame_text f ≡ frame_text g → f ≡ g
 frame_once f g p q e =
-    let all = object_once (frame_members f) (frame_members g) (frame_members_closed f p).all (frame_members_closed g q).all e in
-    let acks : f.acks ≡ g.acks = bits_spelled.once f.acks g.acks tt tt (member_once (codes "acks") (quoted (bits_text f.acks)) (quoted (bits_text g.acks)) (first_same all)) in
-    let brings : f.content ≡ g.content = content_once f.content g.content p q (rest_same all) in
+    let all = object_once _ _ (frame_members_closed f p).all (frame_members_closed g q).all e in
+    let acks : f.acks ≡ g.acks = bits_spelled.once f.acks g.acks tt tt (member_once (codes "acks") _ _ (first_same all)) in
+    let brings : f.content ≡ g.content = content_once _ _ p q (rest_same all) in
     λ i. record { acks = acks i; content = brings i }
 
 pub frame_spelled : Spelled frame_text IsFrameTold
@@ -228,7 +228,7 @@ pieces_told s is = All-weaker (IsPieceTold s) IsPacketTold (λ p piece. piece.to
 slot_once : (s t : SlotState) → IsSlotTold s → IsSlotTold t → slot_text s ≡ slot_text t → s ≡ t
 slot_once s t p q e =
     let pieces : s.pieces ≡ t.pieces = packets_spelled.once s.pieces t.pieces (pieces_told s p) (pieces_told t q) e in
-    let same : SameMessage s t = of_one s t s.pieces p.some p.pieces (subst (λ (ps : List PacketFields). All (IsPieceTold t) ps) (sym pieces) q.pieces) in
+    let same : SameMessage s t = of_one s t _ p.some p.pieces (subst (λ (ps : List PacketFields). All (IsPieceTold t) ps) (sym pieces) q.pieces) in
     λ i. record { flow = same.flow i; number = same.number i; pieces = pieces i }
 
 pub slot_spelled : Spelled slot_text IsSlotTold

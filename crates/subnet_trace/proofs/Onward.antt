@@ -1,5 +1,5 @@
 -- A calm of a subnet continues.
-use Rattle.subnet_trace.proofs.Common.{is_halt, is_memory, Host, CarrierFault, Inbound, NetEvent, Direction, Frame, State, Shown, GoesOn, Happens, IsOneCall, outcome_of, RawEvent, Kept, refusal_of, step_grows, take_grows, imp_is_up, GoesOnWith, Stage, Element}
+use Rattle.subnet_trace.proofs.Common.{Host, CarrierFault, Inbound, NetEvent, Direction, Frame, State, Shown, GoesOn, Happens, IsOneCall, outcome_of, RawEvent, Kept, imp_is_up, GoesOnWith, Stage, Element}
 use Rattle.std.proofs.Common.{◌≡◌, ℕ, suc, ◌+◌, ◌-◌, ◌<◌, ◌&&◌, nat_lt, not, is_none, is_some, Bool, List, [], if◌then◌else◌, length, Option, Some, None, Result, Ok, Err, slice_get, slice_set, refl, sym, ap, ◌∙◌, subst, arith, true, false}
 use Rattle.std.proofs.lemmas.Bool.{ltb-false}
 use Rattle.std.proofs.lemmas.List.{get_or_past, nil_from_length, set-get_or}
@@ -49,7 +49,7 @@ none_dropped n l d none = ap (λ (lines : List Wire). record n { lines = lines }
   stays fs e = ap (without_at 0) e ∙ sym e
 
   same : (d : Direction) (w : Wire) → frames_on d w ≡ [] → dropping d 0 w ≡ w
-  same way.Forward w e = ap (λ (fs : List Frame). record w { forward = fs }) (stays w.forward e)
+  same way.Forward w e = ap (λ (fs : List Frame). record w { forward = fs }) (stays _ e)
   same way.Back w e = ap (λ (fs : List Frame). record w { back = fs }) (stays w.back e)
 
 refused_call : (n : Net) (e : NetEvent) (f : CarrierFault) → MayCall n e → step_refusal n e ≡ Some f → stepped n e ≡ n
@@ -70,19 +70,19 @@ given_takes n h given = by (take_refusal n h) given where
 called : (old new : Kept) (e : NetEvent) (r : Result (Unit {0}) CarrierFault) → MayCall old.net e → GoesOn r → SubnetStep old e r new → new.net ≡ stepped old.net e
 called old new e (Ok done) may goes k = ap (λ (k : Kept). k.net) k.1
 called old new e (Err f) may goes k =
-    let w = refused (refusal_of old (λ n. step_refusal n e)) (step_grows old.net e) old new f k goes in
-    ap (λ (k : Kept). k.net) w.1 ∙ sym (refused_call old.net e f may (refusal_is old.stopped (step_refusal old.net e) f w.0 (or_first (is_halt f) (is_memory f) goes)))
+    let w = refused _ _ old new f k goes in
+    ap (λ (k : Kept). k.net) w.1 ∙ sym (refused_call _ e f may (refusal_is _ _ f w.0 (or_first _ _ goes)))
 
 took : (old new : Kept) (h : Host) (r : Result (Option Inbound) CarrierFault) → gives old.net h ≡ true → GoesOn (outcome_of r) → SubnetTake old h r new → new.net ≡ take_in old.net h
 took old new h (Ok o) may goes k = ap (λ (k : Kept). k.net) k.1.1
 took old new h (Err f) may goes k =
-    let w = refused (refusal_of old (λ n. take_refusal n h)) (take_grows old.net h) old new f k goes in
-    absurd (not_some (sym (given_takes old.net h may) ∙ refusal_is old.stopped (take_refusal old.net h) f w.0 (or_first (is_halt f) (is_memory f) goes)))
+    let w = refused _ _ old new f k goes in
+    absurd (not_some (sym (given_takes old.net h may) ∙ refusal_is _ _ f w.0 (or_first _ _ goes)))
 
 -- so where it happens and the subnet continues, the subnet is as is said
 came : (old new : Kept) (e : RawEvent) (shown : List Shown) → MayCome old.net e → Happens subnet_calls old e new shown → new.net ≡ after old.net e
-came old new (event.Net e) shown may k = called old new e k.outcome may k.goes_on k.gives
-came old new (event.Take h) shown may k = took old new h k.gives.0 may (subst GoesOn k.gives.2 k.goes_on) k.gives.1
+came old new (event.Net e) shown may k = called old new e _ may k.goes_on k.gives
+came old new (event.Take h) shown may k = took old new h _ may (subst GoesOn k.gives.2 k.goes_on) k.gives.1
 came old new (event.Out m) shown may k = absurd may
 came old new (event.Calm rounds) shown may k = absurd may
 
@@ -129,7 +129,7 @@ round_over n p lt over =
 idle_calm : (n : Net) (p : Place) → ((round : ℕ) → round_of round n ≡ no_course n) → calm_left n (next_round p) ≡ []
 idle_calm n p none =
     ap (λ (c : Course Net). rest_of_calm round_of (p.round + 1) p.rounds c) (none (p.round + 1))
-    ∙ ap (λ (c : Course Net). c.elements) (idle_rounds round_of (suc (p.round + 1)) (p.rounds - (p.round + 1)) n none)
+    ∙ ap (λ (c : Course Net). c.elements) (idle_rounds round_of _ _ n none)
 
 pub calm_idle : (k : Kept) (p : Place) → p.round < p.rounds → IsNext k.net (λ round. round_left round p.stage k.net) None → IsNext k.net (λ round. round_of round k.net) None → left k p ≡ []
 calm_idle k p lt over none = round_over k.net p lt (over p.round) ∙ idle_calm k.net p none

@@ -1,6 +1,6 @@
 -- All parts of a subnet are printed: the IMPs, the lines, and after them the flows of each IMP.
-use Rattle.subnet_trace.proofs.Common.{◌≡◌, ℕ, suc, Bool, true, false, ◌<◌, ◌≤◌, ◌+◌, List, [], ◌∷◌, ◌++◌, codes, if◌then◌else◌, length, map, Option, Some, None, refl, sym, ap, subst, ◌∙◌, arith, Appends, Appends-trans, is_imp, Net, Imp, Line, all_parts, parts_members, all_flows, parts_of_net, object, further, flat_map, told, FlowPart}
-use Rattle.subnet_trace.specs.Printing.{named, flows_there, members_behind, place_after_members, flow_members, imp_members}
+use Rattle.subnet_trace.proofs.Common.{◌≡◌, ℕ, suc, Bool, true, false, ◌<◌, ◌≤◌, ◌+◌, List, [], ◌∷◌, ◌++◌, codes, if◌then◌else◌, length, map, Option, Some, None, refl, sym, ap, subst, ◌∙◌, arith, Appends, Appends-trans, is_imp, Net, Imp, Line, all_parts, parts_members, parts_of_net, object, further, flat_map, told, FlowPart}
+use Rattle.subnet_trace.specs.Printing.{named, flows_there, members_behind, place_after_members, flow_members}
 use Rattle.trace.specs.Joined.{mark, place_behind, part_behind}
 use Rattle.trace.proofs.lemmas.{Remains, more_printed}
 use Rattle.std.proofs.lemmas.List.{append-nil, append_assoc}
@@ -52,7 +52,7 @@ all_are_left a start all = record { text = λ last printed. printed; next = refl
 -- some are printed
 pub members_printed : (a b c : Option (List ℕ)) (place start : ℕ) (xs rest all : List (List ℕ)) → AreLeft a b place start (xs ++ rest) all → Appends b c (members_behind place xs) → AreLeft a c (place_after_members place xs) start rest all
 members_printed a b c place start xs rest all h printed = record {
-  text = more_printed (members_behind place xs) (members_behind (place_after_members place xs) rest) (members_behind start all) a b c (subst (λ (zs : List ℕ). Remains a b zs (members_behind start all)) (behind_append place xs rest) h.text) printed;
+  text = more_printed (members_behind place xs) (members_behind (place_after_members place xs) rest) _ a b c (subst (λ (zs : List ℕ). Remains a b zs (members_behind start all)) (behind_append place xs rest) h.text) printed;
   next = sym (after_append place xs rest) ∙ h.next;
 }
 
@@ -81,7 +81,7 @@ abbrev pub fixed_members : Net → List (List ℕ)
 fixed_members n = parts_members n (all_parts n)
 
 pub fixed_begins : (n : Net) (a : Option (List ℕ)) → AreLeft a a 0 0 (imps_left n 0) (fixed_members n)
-fixed_begins n a = subst (λ (xs : List (List ℕ)). AreLeft a a 0 0 xs (fixed_members n)) (sym (none_listed n)) (all_are_left a 0 (fixed_members n))
+fixed_begins n a = subst (λ (xs : List (List ℕ)). AreLeft a a 0 0 xs (fixed_members n)) (sym (none_listed n)) (all_are_left a 0 _)
 
 imp_behind : (n : Net) (i place : ℕ) (there : Bool) → is_imp n i ≡ there → part_behind there place (named n (Imp i)) ≡ members_behind place (if there then named n (Imp i) ∷ [] else [])
 imp_behind n i place true is = ap (λ (zs : List ℕ). mark (codes "{") (codes ",") place ++ zs) (sym (append-nil (named n (Imp i))))
@@ -94,16 +94,16 @@ after_imp n i place false = refl
 pub imp_printed : (n : Net) (i place next : ℕ) (a b c : Option (List ℕ)) → i < length n.imps → AreLeft a b place 0 (imps_left n i) (fixed_members n) → Appends b c (part_behind (is_imp n i) place (named n (Imp i))) → next ≡ place_behind place (is_imp n i)
     → AreLeft a c next 0 (imps_left n (i + 1)) (fixed_members n)
 imp_printed n i place next a b c lt h printed is =
-    subst (λ (k : ℕ). AreLeft a c k 0 (imps_left n (i + 1)) (fixed_members n)) (sym (is ∙ after_imp n i place (is_imp n i)))
-    (members_printed a b c place 0 (imp_members n i) (imps_left n (i + 1)) (fixed_members n) (subst (λ (xs : List (List ℕ)). AreLeft a b place 0 xs (fixed_members n)) (imps_next n i lt) h)
-    (subst (Appends b c) (imp_behind n i place (is_imp n i) refl) printed))
+    subst (λ (k : ℕ). AreLeft a c k 0 (imps_left n (i + 1)) (fixed_members n)) (sym (is ∙ after_imp n i place _))
+    (members_printed a b c place 0 _ _ _ (subst (λ (xs : List (List ℕ)). AreLeft a b place 0 xs (fixed_members n)) (imps_next n i lt) h)
+    (subst (Appends b c) (imp_behind n i place _ refl) printed))
 
 pub imps_done : (n : Net) (i place : ℕ) (a b : Option (List ℕ)) → length n.imps ≤ i → AreLeft a b place 0 (imps_left n i) (fixed_members n) → AreLeft a b place 0 (lines_left n 0) (fixed_members n)
 imps_done n i place a b past h = subst (λ (xs : List (List ℕ)). AreLeft a b place 0 xs (fixed_members n)) (imps_over n i past) h
 
 pub line_printed : (n : Net) (l place : ℕ) (a b c : Option (List ℕ)) → l < length n.lines → AreLeft a b place 0 (lines_left n l) (fixed_members n) → Appends b c (mark (codes "{") (codes ",") place ++ named n (Line l)) → AreLeft a c 1 0 (lines_left n (l + 1)) (fixed_members n)
 line_printed n l place a b c lt h printed =
-    one_printed a b c place 0 (named n (Line l)) (lines_left n (l + 1)) (fixed_members n) (subst (λ (xs : List (List ℕ)). AreLeft a b place 0 xs (fixed_members n)) (lines_next n l lt) h) printed
+    one_printed a b c place 0 _ _ _ (subst (λ (xs : List (List ℕ)). AreLeft a b place 0 xs (fixed_members n)) (lines_next n l lt) h) printed
 
 -- ---- flows
 
@@ -122,18 +122,18 @@ pub flows_begin : (n : Net) (place : ℕ) (a b : Option (List ℕ)) → Appends 
 flows_begin n place a b printed is =
     subst (λ (k : ℕ). AreLeft a b k 0 (flow_texts n 0) (all_members_of n)) (sym is)
     (subst (λ (ls : List (List FlowPart)). AreLeft a b (place_after_members 0 (fixed_members n)) 0 (flat_map (map told) ls) (all_members_of n)) (sym (all_left n))
-    (members_printed a a b 0 0 (fixed_members n) (flat_map (map told) (all_flows n)) (all_members_of n) (all_are_left a 0 (all_members_of n)) printed))
+    (members_printed a a b 0 0 _ _ _ (all_are_left a 0 _) printed))
 
 pub flows_printed : (n : Net) (i place next : ℕ) (a b c : Option (List ℕ)) → i < length n.imps → AreLeft a b place 0 (flow_texts n i) (all_members_of n) → Appends b c (members_behind place (flow_members n i)) → next ≡ place_after_members place (flow_members n i)
     → AreLeft a c next 0 (flow_texts n (i + 1)) (all_members_of n)
 flows_printed n i place next a b c lt h printed is =
     subst (λ (k : ℕ). AreLeft a c k 0 (flow_texts n (i + 1)) (all_members_of n)) (sym is)
-    (members_printed a b c place 0 (flow_members n i) (flow_texts n (i + 1)) (all_members_of n)
+    (members_printed a b c place 0 _ _ _
     (subst (λ (xs : List (List ℕ)). AreLeft a b place 0 xs (all_members_of n)) (ap (flat_map (map told)) (flows_next n i lt) ∙ each_append (flows_there n i) (flows_left n (i + 1))) h) printed)
 
 pub whole_printed : (n : Net) (i place : ℕ) (a b c : Option (List ℕ)) → length n.imps ≤ i → AreLeft a b place 0 (flow_texts n i) (all_members_of n) → Appends b c (mark (codes "{}") (codes "}") place) → Appends a c (object (all_members_of n))
 whole_printed n i place a b c past h last =
     let none : flow_texts n i ≡ [] = ap (flat_map (map told)) (flows_over n i past) in
-    subst (Appends a c) (object_behind (all_members_of n))
-    (Appends-trans a b c (members_behind 0 (all_members_of n)) (mark (codes "{}") (codes "}") (place_after_members 0 (all_members_of n))) (all_written a b place 0 (flow_texts n i) (all_members_of n) none h)
-    (subst (λ (k : ℕ). Appends b c (mark (codes "{}") (codes "}") k)) (last_place a b place 0 (flow_texts n i) (all_members_of n) none h) last))
+    subst (Appends a c) (object_behind _)
+    (Appends-trans a b c (members_behind 0 (all_members_of n)) (mark (codes "{}") (codes "}") (place_after_members 0 (all_members_of n))) (all_written a b place 0 _ _ none h)
+    (subst (λ (k : ℕ). Appends b c (mark (codes "{}") (codes "}") k)) (last_place a b place 0 _ _ none h) last))

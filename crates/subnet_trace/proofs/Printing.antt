@@ -1,6 +1,6 @@
 -- Parts of a subnet are printed item by item.
 use Rattle.subnet_trace.proofs.Common.{Appends, decimal, range_with_len, Appends-trans, most_imps, Carriage, Content, Table, next_of, member, object, quoted, further}
-use Rattle.std.proofs.Common.{◌≡◌, ℕ, suc, Bool, true, false, ◌<◌, ◌≤◌, ◌+◌, ◌-◌, List, [], ◌∷◌, ◌++◌, codes, drop, length, nat_lt, Option, None, Some, sym, ap, ap₂, subst, ◌∙◌, arith, ◌/◌, ◌%◌}
+use Rattle.std.proofs.Common.{◌≡◌, ℕ, suc, Bool, true, false, ◌<◌, ◌≤◌, ◌+◌, ◌-◌, List, [], ◌∷◌, ◌++◌, codes, drop, length, nat_lt, Option, None, sym, ap, ap₂, subst, ◌∙◌, arith, ◌/◌, ◌%◌}
 use Rattle.routing.specs.Vector.{infinite}
 use Rattle.subnet_trace.specs.Printing.{next_behind, place_after, distance_behind, number_behind}
 use Rattle.subnet_trace.specs.Texts.{bit_text, bits_text, content_members, distances_text, finite_from, next_from, next_members, next_text, packet_text}
@@ -46,7 +46,7 @@ pub distances_printed : (ds : List ℕ) (i place : ℕ) (a b c : Option (List �
 distances_printed ds i place a b c past remains last =
     let none : finite_from (i + 1) (drop i ds) ≡ [] = ap (finite_from (i + 1)) (drop_all i ds past) in
     let here : Remains a b (left (codes "{") (codes "}") place []) (distances_left 0 0 ds) = subst (λ zs. Remains a b (left (codes "{") (codes "}") place zs) (distances_left 0 0 ds)) none remains in
-    (end_printed (codes "{") (codes "}") place (distances_left 0 0 ds) a b c here last)
+    (end_printed (codes "{") (codes "}") place _ a b c here last)
 
 -- ---- ports to IMPs
 
@@ -62,13 +62,13 @@ next_printed t i place whole a b c lt remains printed =
     by rest (next_of t (i + 1)) (subst (λ (m : ℕ). Remains a b (left (codes "{") (codes "}") place (next_from t (range_with_len (i + 1) m))) whole) count remains) printed where
       by : (rest : List (List ℕ)) (o : Option ℕ) → Remains a b (left (codes "{") (codes "}") place (next_members (i + 1) o ++ rest)) whole → Appends b c (next_behind place (i + 1) o) → Remains a c (left (codes "{") (codes "}") (place_after place o) rest) whole
       by rest None here none = maybe_printed (codes "{") (codes "}") false [] rest place whole a b c here none
-      by rest (Some port) here one = maybe_printed (codes "{") (codes "}") true (member (decimal (i + 1)) (decimal port)) rest place whole a b c here one
+      by rest _ here one = maybe_printed (codes "{") (codes "}") true _ rest place whole a b c here one
 
 pub ports_printed : (t : Table) (i place : ℕ) (a b c : Option (List ℕ)) → most_imps ≤ i → Remains a b (ports_left t place i) (next_text t) → Appends b c (mark (codes "{}") (codes "}") place) → Appends a c (next_text t)
 ports_printed t i place a b c past remains last =
     let none : most_imps - i ≡ 0 = omega (arith, past) in
     let here : Remains a b (left (codes "{") (codes "}") place []) (next_text t) = subst (λ (m : ℕ). Remains a b (left (codes "{") (codes "}") place (next_from t (range_with_len (i + 1) m))) (next_text t)) none remains in
-    end_printed (codes "{") (codes "}") place (next_text t) a b c here last
+    end_printed (codes "{") (codes "}") place _ a b c here last
 
 -- ---- frames
 

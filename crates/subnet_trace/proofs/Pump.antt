@@ -53,7 +53,7 @@ sent_same ports p (Some j) k full = by (submitted (port_at ports j).line p) refl
 pumped_same : (routes : Table) (ports : List Port) (ps : List PacketFields) (k : ℕ) → IsFull (port_at ports k).line → Same ports (pumped routes ports ps).ports k
 pumped_same routes ports [] k full = refl
 pumped_same routes ports (p ∷ ps) k full =
-    let one : Same ports (packet_sent ports p (next_of routes (target p))).ports k = sent_same ports p (next_of routes (target p)) k full in
+    let one : Same ports (packet_sent ports p (next_of routes (target p))).ports k = sent_same ports p _ k full in
     pumped_same routes (packet_sent ports p (next_of routes (target p))).ports ps k (subst (λ (q : Port). IsFull q.line) (sym one) full) ∙ one
 
 waits_on : (routes : Table) (ports after : List Port) (ps : List PacketFields) → ((k : ℕ) → IsFull (port_at ports k).line → Same ports after k) → AllWait routes ports ps → AllWait routes after ps
@@ -69,7 +69,7 @@ sent_waits : (routes : Table) (ports : List Port) (p : PacketFields) (o : Option
 sent_waits routes ports p None route = tt
 sent_waits routes ports p (Some k) route = by (submitted (port_at ports k).line p) refl where
   by : (r : Option (End × Frame)) → submitted (port_at ports k).line p ≡ r → AllWait routes (sent_on ports k p r).ports (sent_on ports k p r).waits
-  by None e = (record { port = k; route = route; full = submitted_fully (port_at ports k).line p e }, tt)
+  by None e = (record { port = k; route = route; full = submitted_fully _ p e }, tt)
   by (Some (end, frame)) e = tt
 
 pumped_waits : (routes : Table) (ports : List Port) (ps : List PacketFields) → AllWait routes (pumped routes ports ps).ports (pumped routes ports ps).waits
@@ -77,8 +77,8 @@ pumped_waits routes ports [] = tt
 pumped_waits routes ports (p ∷ ps) =
     let first : Pumped = packet_sent ports p (next_of routes (target p)) in
     let rest : Pumped = pumped routes first.ports ps in
-    both_wait routes rest.ports first.waits rest.waits
-    (waits_on routes first.ports rest.ports first.waits (λ k full. pumped_same routes first.ports ps k full) (sent_waits routes ports p (next_of routes (target p)) refl))
+    both_wait routes _ _ _
+    (waits_on routes _ _ _ (λ k full. pumped_same routes first.ports ps k full) (sent_waits routes ports p _ refl))
     (pumped_waits routes first.ports ps)
 
 -- ---- a second pass
@@ -89,7 +89,7 @@ still ports ps = record { ports = ports; waits = ps; frames = [] }
 one_still : (routes : Table) (ports : List Port) (p : PacketFields) → Waits routes ports p → packet_sent ports p (next_of routes (target p)) ≡ still ports (p ∷ [])
 unfolding still
 one_still routes ports p w =
-    ap (λ (o : Option ℕ). packet_sent ports p o) w.route ∙ ap (λ o. sent_on ports w.port p o) (full_waits (port_at ports w.port).line p w.full)
+    ap (λ (o : Option ℕ). packet_sent ports p o) w.route ∙ ap (λ o. sent_on ports w.port p o) (full_waits _ p w.full)
 
 all_still : (routes : Table) (ports : List Port) (ps : List PacketFields) → AllWait routes ports ps → pumped routes ports ps ≡ still ports ps
 unfolding still
@@ -107,4 +107,4 @@ unfolding still
 pump_still frames s =
     let p : Pumped = pumped s.routes s.ports s.store in
     let t : State = record s { ports = p.ports; store = p.waits } in
-    ap (λ (q : Pumped). record { state = record t { ports = q.ports; store = q.waits }; frames = [] ++ q.frames }) (all_still s.routes p.ports p.waits (pumped_waits s.routes s.ports s.store))
+    ap (λ (q : Pumped). record { state = record t { ports = q.ports; store = q.waits }; frames = [] ++ q.frames }) (all_still _ _ _ (pumped_waits _ _ _))

@@ -1,8 +1,8 @@
 -- What an event's parts do not name is as before.
-use Rattle.subnet_trace.proofs.Common.{false≢true, eqb-true, nat_tests, get_or-set_other, length-set, range_with_len, is_halt, is_memory, Host, CarrierFault, HostMessage, Inbound, NetEvent, Crossing, Direction, Frame, ImpTurn, State, from_host, to_host, Outgoing, Shown, GoesOn, Happens, IsOneCall, outcome_of, RawEvent, Fails, Kept, running, Decided, Ends, subnet_calls, IsOneNetwork, IsPlaced, ends_of}
+use Rattle.subnet_trace.proofs.Common.{false≢true, eqb-true, nat_tests, get_or-set_other, length-set, range_with_len, is_halt, is_memory, Host, CarrierFault, HostMessage, Inbound, NetEvent, Crossing, Direction, Frame, ImpTurn, State, Outgoing, Shown, GoesOn, Happens, IsOneCall, outcome_of, RawEvent, Fails, Kept, running, Decided, Ends, subnet_calls, IsOneNetwork, IsPlaced, ends_of}
 use Rattle.std.proofs.Common.{◌≡◌, ◌≢◌, ℕ, zero, suc, ◌+◌, ◌-◌, ◌<◌, ◌≤◌, ◌==◌, ◌&&◌, ◌||◌, ◌⊎◌, inl, inr, nat_lt, not, Bool, false, List, [], ◌∷◌, if◌then◌else◌, filter, length, map, Option, Some, None, Result, Ok, Err, is_some, slice_get, slice_set, refl, sym, ap, ◌∙◌, subst, arith, true, slice_index_or}
 use Rattle.interface.proofs.lemmas.{or_false, and_first}
-use Rattle.subnet.specs.Events.{accepted, at_imp, at_up, deliver, delivered, drop_frame, frame_refusal, imp_refusal, imp_started, imp_stopped, is_imp, offer_out, site_at, step_refusal, stepped, take_in, first_of, starting_refusal}
+use Rattle.subnet.specs.Events.{at_imp, deliver, delivered, drop_frame, frame_refusal, imp_refusal, imp_started, imp_stopped, is_imp, offer_out, site_at, step_refusal, stepped, take_in, first_of, starting_refusal}
 use Rattle.subnet.specs.Net.{Net, Wire, ends_at, far_end, followed_by, frames_on, imp_at, line_from, no_wire, put_all, put_on, put_one, wire_at, with_frame, with_turn, dropping}
 use Rattle.subnet.specs.Opening.{opened_from, opened_imp, opening_subnet}
 use Rattle.subnet_trace.specs.Parts.{Imp, Line, is_part, Part, SamePart, imp_alone, imp_and_lines, is_named, line_alone, lines_at, parts_in, parts_of}
@@ -46,10 +46,10 @@ put_other lines i f l (Some k) found apart =
     get_or-set_other lines k l (with_frame i f (wire_at lines k)) no_wire (λ same. false≢true (sym apart ∙ ap (λ (j : ℕ). ends_at i (wire_at lines j)) same ∙ found k refl))
 
 one_other : (lines : List Wire) (i : ℕ) (out : Outgoing) (l : ℕ) → ends_at i (wire_at lines l) ≡ false → wire_at (put_one lines i out) l ≡ wire_at lines l
-one_other lines i out l apart = put_other lines i out.frame l (line_from 0 lines i out.port) found apart where
+one_other lines i out l apart = put_other lines i _ l _ found apart where
   found : (k : ℕ) → line_from 0 lines i out.port ≡ Some k → ends_at i (wire_at lines k) ≡ true
   found k e =
-      let f : IsFound 0 k i lines = line_found 0 lines i out.port k e in
+      let f : IsFound 0 k i lines = line_found 0 lines i _ k e in
       let here : f.place ≡ k = omega (arith, f.is) in
       ap (λ (j : ℕ). ends_at i (wire_at lines j)) (sym here) ∙ f.ends
 
@@ -75,7 +75,7 @@ not_at : (n : Net) (i l : ℕ) → nat_lt l (length n.lines) ≡ true → is_nam
 not_at n i l there none = by (ends_at i (wire_at n.lines l)) refl where
   by : (b : Bool) → ends_at i (wire_at n.lines l) ≡ b → ends_at i (wire_at n.lines l) ≡ false
   by false e = e
-  by true e = absurd (false≢true (sym none ∙ line_named (λ k. ends_at i (wire_at n.lines k)) 0 (length n.lines) l (omega arith) (grind (arith, nat_tests, there)) e))
+  by true e = absurd (false≢true (sym none ∙ line_named _ 0 (length n.lines) l (omega arith) (grind (arith, nat_tests, there)) e))
 
 pub apart_from : (j i : ℕ) → (j == i) ≡ false → j ≢ i
 apart_from j i e same = grind (arith, nat_tests)
@@ -91,8 +91,8 @@ is_there n i s placed up = by (site_at n i) refl where
 
 turn_rest : (n : Net) (i : ℕ) (turn : ImpTurn) (p : Part) → is_part n p ≡ true → is_named p (Imp i ∷ map (λ l. Line l) (lines_at n i)) ≡ false → SamePart p n (with_turn i turn n)
 turn_rest n i turn (Imp j) there none =
-    get_or-set_other n.imps i j (Some turn.state) None (apart_from j i (or_false (j == i) (is_named (Imp j) (map (λ l. Line l) (lines_at n i))) none).0)
-turn_rest n i turn (Line l) there none = all_other turn.frames n.lines i l (not_at n i l there none)
+    get_or-set_other n.imps i j (Some turn.state) None (apart_from j i (or_false (j == i) _ none).0)
+turn_rest n i turn (Line l) there none = all_other turn.frames _ i l (not_at n i l there none)
 
 -- whatever crossed, which is no part
 imp_rest : (n : Net) (i : ℕ) (call : State → ImpTurn) (log : List Crossing) (p : Part) → IsPlaced n → is_part n p ≡ true → is_named p (imp_and_lines n i) ≡ false → SamePart p n (record (at_imp (imp_at n.imps i) i call n) { log = log })
@@ -108,7 +108,7 @@ imp_rest n i call log p placed there none = by (imp_at n.imps i) refl where
   by : (o : Option State) → imp_at n.imps i ≡ o → SamePart p n (record (at_imp o i call n) { log = log })
   by None down = same p
   by (Some s) up =
-      logged p (with_turn i (call s) n) (turn_rest n i (call s) p there (ap (λ (b : Bool). is_named p (if b then Imp i ∷ map (λ l. Line l) (lines_at n i) else [])) (sym (is_there n i s placed up)) ∙ none))
+      logged p _ (turn_rest n i (call s) p there (ap (λ (b : Bool). is_named p (if b then Imp i ∷ map (λ l. Line l) (lines_at n i) else [])) (sym (is_there n i s placed up)) ∙ none))
 
 -- ---- the other events
 
@@ -132,7 +132,7 @@ deliver_rest n l d k p placed ok there none = by (slice_get (frames_on d (wire_a
 
   by : (o : Option Frame) → SamePart p n (delivered n l d o)
   by None = same_all p n n refl
-  by (Some f) = imp_rest n i _ (delivered n l d (Some f)).log p placed there at_end
+  by (Some f) = imp_rest n i _ _ p placed there at_end
 
 drop_rest : (n : Net) (l : ℕ) (d : Direction) (k : ℕ) (p : Part) → frame_refusal n l d k ≡ None → is_named p (line_alone n l) ≡ false → SamePart p n (drop_frame n l d k)
 drop_rest n l d k (Imp j) ok none = refl
@@ -152,11 +152,11 @@ set_rest : (n : Net) (i : ℕ) (o : Option State) (j : ℕ) → is_named (Imp j)
 set_rest n i o j none = get_or-set_other n.imps i j o None (apart_from j i (or_false (j == i) false none).0)
 
 stop_rest : (n : Net) (i : ℕ) (p : Part) → imp_refusal n i ≡ None → is_named p (imp_alone n i) ≡ false → SamePart p n (imp_stopped n i)
-stop_rest n i (Imp j) ok none = set_rest n i None j (alone_named n i (Imp j) (refused_none (is_imp n i) (at_up (imp_at n.imps i) accepted) ok) none)
+stop_rest n i (Imp j) ok none = set_rest n i None j (alone_named n i (Imp j) (refused_none _ _ ok) none)
 stop_rest n i (Line l) ok none = refl
 
 start_rest : (n : Net) (i : ℕ) (p : Part) → starting_refusal n i ≡ None → is_named p (imp_alone n i) ≡ false → SamePart p n (imp_started n i)
-start_rest n i (Imp j) ok none = set_rest n i _ j (alone_named n i (Imp j) (refused_none (is_imp n i) _ ok) none)
+start_rest n i (Imp j) ok none = set_rest n i _ j (alone_named n i (Imp j) (refused_none _ _ ok) none)
 start_rest n i (Line l) ok none = refl
 
 -- ---- all events
@@ -168,7 +168,7 @@ step_rest n (net.Garble l d k) p placed ok there none = drop_rest n l d k p ok n
 step_rest n (net.ImpDown i) p placed ok there none = stop_rest n i p ok none
 step_rest n (net.ImpUp i) p placed ok there none = start_rest n i p ok none
 -- every other event is a call of one IMP
-step_rest n e p placed ok there none = imp_rest n _ _ (stepped n e).log p placed there none
+step_rest n e p placed ok there none = imp_rest n _ _ _ p placed there none
 
 -- ---- a call that continued
 
@@ -184,7 +184,7 @@ GoesOnAfter (Err f) = (is_halt f || is_memory f) ≡ false
 pub went : {T : Type 0} (Gives : T → Type 0) (refusal : Option CarrierFault) (grows : Bool) (old new : Kept) (r : Result T CarrierFault) → Decided refusal grows Gives old new r → GoesOnAfter r → Went Gives refusal old new r
 went Gives refusal grows old new (Ok x) h goes = h
 went Gives refusal grows old new (Err f) h goes =
-    let whole : is_memory f ≡ false = (or_false (is_halt f) (is_memory f) goes).1 in
+    let whole : is_memory f ≡ false = (or_false (is_halt f) _ goes).1 in
     (subst (λ (b : Bool). Fails refusal grows b f old new) whole h).1
 
 pub goes_after : (r : Result (Unit {0}) CarrierFault) → GoesOn r → GoesOnAfter r
@@ -216,15 +216,15 @@ took old new h refusal given (Ok o) w = inr w.1.1
 took old new h refusal given (Err f) w = inl w
 
 happened : (old new : Kept) (e : NetEvent) (r : Result (Unit {0}) CarrierFault) → Went (λ done. new ≡ running (stepped old.net e)) (first_of old.stopped fault.Stopped (step_refusal old.net e)) old new r → Left old new (event.Net e)
-happened old new e (Ok done) w = inr (runs old.stopped (step_refusal old.net e) w.0, w.1)
+happened old new e (Ok done) w = inr (runs _ _ w.0, w.1)
 happened old new e (Err f) w = inl w
 
 pub left_of : (old new : Kept) (e : RawEvent) (shown : List Shown) → IsOneCall e → Happens subnet_calls old e new shown → Left old new e
-left_of old new (event.Out m) shown one k = offered old new m _ k.outcome (went _ _ _ old new k.outcome k.gives (goes_after k.outcome k.goes_on))
+left_of old new (event.Out m) shown one k = offered old new m _ _ (went _ _ _ old new _ k.gives (goes_after _ k.goes_on))
 left_of old new (event.Take h) shown one k =
     let r : Result (Option Inbound) CarrierFault = k.gives.0 in
     took old new h _ _ r (went _ _ _ old new r k.gives.1 (goes_after_take r (subst GoesOn k.gives.2 k.goes_on)))
-left_of old new (event.Net e) shown one k = happened old new e k.outcome (went _ _ _ old new k.outcome k.gives (goes_after k.outcome k.goes_on))
+left_of old new (event.Net e) shown one k = happened old new e _ (went _ _ _ old new _ k.gives (goes_after _ k.goes_on))
 left_of old new (event.Calm rounds) shown one k = absurd one
 
 -- as the part is in what is left
@@ -233,12 +233,12 @@ as_left (Imp i) old left new s e = ap (λ (x : Net). imp_at x.imps i) e ∙ s
 as_left (Line l) old left new s e = ap (λ (x : Net). wire_at x.lines l) e ∙ s
 
 rest_left : (old new : Kept) (e : RawEvent) (p : Part) → IsPlaced old.net → Left old new e → is_part old.net p ≡ true → is_named p (parts_of old.net e) ≡ false → SamePart p old.net new.net
-rest_left old new (event.Out m) p placed (inl same) there none = same_all p old.net new.net (ap (λ (k : Kept). k.net) same)
-rest_left old new (event.Out m) p placed (inr left) there none = as_left p old.net (offer_out old.net m) new.net (imp_rest old.net m.flow.source.imp _ (offer_out old.net m).log p placed there none) (ap (λ (k : Kept). k.net) left)
-rest_left old new (event.Take h) p placed (inl same) there none = same_all p old.net new.net (ap (λ (k : Kept). k.net) same)
-rest_left old new (event.Take h) p placed (inr left) there none = as_left p old.net (take_in old.net h) new.net (imp_rest old.net h.imp _ (take_in old.net h).log p placed there none) (ap (λ (k : Kept). k.net) left)
-rest_left old new (event.Net e) p placed (inl same) there none = same_all p old.net new.net (ap (λ (k : Kept). k.net) same)
-rest_left old new (event.Net e) p placed (inr left) there none = as_left p old.net (stepped old.net e) new.net (step_rest old.net e p placed left.0 there none) (ap (λ (k : Kept). k.net) left.1)
+rest_left old new (event.Out m) p placed (inl same) there none = same_all p _ _ (ap (λ (k : Kept). k.net) same)
+rest_left old new (event.Out m) p placed (inr left) there none = as_left p _ _ _ (imp_rest _ _ _ _ p placed there none) (ap (λ (k : Kept). k.net) left)
+rest_left old new (event.Take h) p placed (inl same) there none = same_all p _ _ (ap (λ (k : Kept). k.net) same)
+rest_left old new (event.Take h) p placed (inr left) there none = as_left p _ _ _ (imp_rest _ h.imp _ _ p placed there none) (ap (λ (k : Kept). k.net) left)
+rest_left old new (event.Net e) p placed (inl same) there none = same_all p _ _ (ap (λ (k : Kept). k.net) same)
+rest_left old new (event.Net e) p placed (inr left) there none = as_left p _ _ _ (step_rest _ e p placed left.0 there none) (ap (λ (k : Kept). k.net) left.1)
 rest_left old new (event.Calm rounds) p placed left there none = absurd left
 
 pub rest : (old new : Kept) (e : RawEvent) (shown : List Shown) (p : Part) → IsPlaced old.net → IsOneCall e → Happens subnet_calls old e new shown → is_part old.net p ≡ true → is_named p (parts_of old.net e) ≡ false → SamePart p old.net new.net
@@ -258,7 +258,7 @@ put_ends lines i f (Some k) = map-set_same ends_of lines k (with_frame i f (wire
 
 pub all_ends : (outs : List Outgoing) (lines : List Wire) (i : ℕ) → map ends_of (put_all lines i outs) ≡ map ends_of lines
 all_ends [] lines i = refl
-all_ends (out ∷ outs) lines i = all_ends outs (put_one lines i out) i ∙ put_ends lines i out.frame (line_from 0 lines i out.port)
+all_ends (out ∷ outs) lines i = all_ends outs (put_one lines i out) i ∙ put_ends lines i _ _
 
 -- another IMP in the place of one of the network's
 one_placed : (n : Net) (i : ℕ) (o : Option State) → is_imp n i ≡ true → IsPlaced n → (j : ℕ) → site_at n j ≡ None → imp_at (slice_set n.imps i o) j ≡ None
@@ -284,14 +284,14 @@ at_keeps n i call log = by (imp_at n.imps i) refl where
   by : (o : Option State) → imp_at n.imps i ≡ o → Keeps n (record (at_imp o i call n) { log = log })
   by None down = record { network = record { hosts = refl; sites = refl; lines = refl }; placed = λ placed. placed; places = refl }
   by (Some s) up = record {
-    network = record { hosts = refl; sites = refl; lines = sym (all_ends (call s).frames n.lines i) };
+    network = record { hosts = refl; sites = refl; lines = sym (all_ends (call s).frames _ i) };
     placed = λ placed. one_placed n i (Some (call s).state) (is_there n i s placed up) placed;
     places = length-set n.imps i (Some (call s).state);
   }
 
 deliver_keeps : (n : Net) (l : ℕ) (d : Direction) (o : Option Frame) → Keeps n (delivered n l d o)
 deliver_keeps n l d None = unchanged n n refl
-deliver_keeps n l d (Some f) = at_keeps n (far_end d (wire_at n.lines l)) _ (delivered n l d (Some f)).log
+deliver_keeps n l d (Some f) = at_keeps n _ _ _
 
 dropping_ends : (d : Direction) (k : ℕ) (w : Wire) → ends_of (dropping d k w) ≡ ends_of w
 dropping_ends way.Forward k w = refl
@@ -299,38 +299,38 @@ dropping_ends way.Back k w = refl
 
 pub drop_keeps : (n : Net) (l : ℕ) (d : Direction) (k : ℕ) → Keeps n (drop_frame n l d k)
 drop_keeps n l d k = record {
-  network = record { hosts = refl; sites = refl; lines = sym (map-set_same ends_of n.lines l (dropping d k (wire_at n.lines l)) no_wire (dropping_ends d k (wire_at n.lines l))) };
+  network = record { hosts = refl; sites = refl; lines = sym (map-set_same ends_of n.lines l (dropping d k (wire_at n.lines l)) no_wire (dropping_ends d k _)) };
   placed = λ placed. placed;
   places = refl;
 }
 
 pub step_keeps : (n : Net) (e : NetEvent) → step_refusal n e ≡ None → Keeps n (stepped n e)
-step_keeps n (net.Deliver l d k) ok = deliver_keeps n l d (slice_get (frames_on d (wire_at n.lines l)) k)
+step_keeps n (net.Deliver l d k) ok = deliver_keeps n l d _
 step_keeps n (net.Drop l d k) ok = drop_keeps n l d k
 step_keeps n (net.Garble l d k) ok = drop_keeps n l d k
 step_keeps n (net.ImpDown i) ok = record {
   network = record { hosts = refl; sites = refl; lines = refl };
-  placed = λ placed. one_placed n i None (refused_none (is_imp n i) (at_up (imp_at n.imps i) accepted) ok) placed;
+  placed = λ placed. one_placed n i None (refused_none _ _ ok) placed;
   places = length-set n.imps i None;
 }
 step_keeps n (net.ImpUp i) ok = record {
   network = record { hosts = refl; sites = refl; lines = refl };
-  placed = λ placed. one_placed n i _ (refused_none (is_imp n i) _ ok) placed;
+  placed = λ placed. one_placed n i _ (refused_none _ _ ok) placed;
   places = length-set n.imps i _;
 }
 -- every other event is a call of one IMP
-step_keeps n e ok = at_keeps n _ _ (stepped n e).log
+step_keeps n e ok = at_keeps n _ _ _
 
 into : (n left new : Net) → Keeps n left → new ≡ left → Keeps n new
 into n left new k e = subst (Keeps n) (sym e) k
 
 kept_left : (old new : Kept) (e : RawEvent) → Left old new e → Keeps old.net new.net
 kept_left old new (event.Out m) (inl same) = unchanged old.net new.net (ap (λ (k : Kept). k.net) same)
-kept_left old new (event.Out m) (inr left) = into old.net (offer_out old.net m) new.net (at_keeps old.net m.flow.source.imp (λ s. from_host s m) (offer_out old.net m).log) (ap (λ (k : Kept). k.net) left)
+kept_left old new (event.Out m) (inr left) = into _ _ _ (at_keeps _ _ _ _) (ap (λ (k : Kept). k.net) left)
 kept_left old new (event.Take h) (inl same) = unchanged old.net new.net (ap (λ (k : Kept). k.net) same)
-kept_left old new (event.Take h) (inr left) = into old.net (take_in old.net h) new.net (at_keeps old.net h.imp (λ s. to_host s h.host) (take_in old.net h).log) (ap (λ (k : Kept). k.net) left)
+kept_left old new (event.Take h) (inr left) = into _ _ _ (at_keeps _ h.imp _ _) (ap (λ (k : Kept). k.net) left)
 kept_left old new (event.Net e) (inl same) = unchanged old.net new.net (ap (λ (k : Kept). k.net) same)
-kept_left old new (event.Net e) (inr left) = into old.net (stepped old.net e) new.net (step_keeps old.net e left.0) (ap (λ (k : Kept). k.net) left.1)
+kept_left old new (event.Net e) (inr left) = into _ _ _ (step_keeps _ e left.0) (ap (λ (k : Kept). k.net) left.1)
 kept_left old new (event.Calm rounds) left = absurd left
 
 pub keeps : (old new : Kept) (e : RawEvent) (shown : List Shown) → IsOneCall e → Happens subnet_calls old e new shown → Keeps old.net new.net

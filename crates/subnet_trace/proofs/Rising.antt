@@ -1,5 +1,5 @@
 -- In the lists of a subnet flows rise, and two subnets over one network have the same lists and parts.
-use Rattle.subnet_trace.proofs.Common.{◌≡◌, ℕ, suc, true, List, [], ◌∷◌, ◌++◌, filter, length, map, None, Option, Some, refl, sym, ap, ap₂, ◌∙◌, All-cons, All-nil, All-append, Flow, flow_cmp, State, named, is_imp, Net, imp_at, FlowPart, IsOneNetwork, IsTold, ends_of, kept_of, sources_of, kept_part, source_part, length-map, Ordering, Less, Equal, Greater, and_parts}
+use Rattle.subnet_trace.proofs.Common.{◌≡◌, ℕ, suc, true, List, [], ◌∷◌, ◌++◌, filter, length, map, None, Option, Some, refl, sym, ap, ap₂, ◌∙◌, All-cons, All-nil, All-append, Flow, flow_cmp, State, named, is_imp, Net, imp_at, FlowPart, IsOneNetwork, IsTold, ends_of, kept_of, sources_of, kept_part, length-map, Ordering, Less, Equal, Greater, and_parts}
 use Rattle.std.specs.List.{range_with_len, flat_map, All, AllByRecursion}
 use Rattle.subnet_trace.specs.Parts.{Imp, Line, all_parts, flows_at, Part, parts_of_net}
 use Rattle.std.specs.FinMap as fin
@@ -31,17 +31,17 @@ unfolding IsStrictlySortedBy
 entries_rise part same [] h = tt
 entries_rise part same (e ∷ es) h =
     let parts = and_parts (below_all flow_cmp e.0 es) (is_sorted flow_cmp es) h in
-    (behind part same (part e).flow es (ap (λ (f : Flow). below_all flow_cmp f es) (same e) ∙ parts.0), entries_rise part same es parts.1)
+    (behind part same _ es (ap (λ (f : Flow). below_all flow_cmp f es) (same e) ∙ parts.0), entries_rise part same es parts.1)
 
 map_rises : {V : Type 0} (part : Flow × V → FlowPart) → ((e : Flow × V) → (part e).flow ≡ e.0)
     → (m : fin.FinMap flow_cmp V) → Rises (map part (fin.entries m))
-map_rises part same m = entries_rise part same (fin.entries m)
-    (known (is_sorted flow_cmp (fin.entries m)) (fin.entries_sorted m))
+map_rises part same m = entries_rise part same _
+    (known _ (fin.entries_sorted m))
 
 sources_rise : (o : Option State) → Rises (sources_of o)
 unfolding IsStrictlySortedBy
 sources_rise None = tt
-sources_rise (Some s) = map_rises (source_part s) (λ e. refl) s.sources
+sources_rise (Some s) = map_rises _ (λ e. refl) _
 
 kept_rise : (o : Option State) → Rises (kept_of o)
 unfolding IsStrictlySortedBy
@@ -53,8 +53,8 @@ kept_rise (Some s) = map_rises kept_part (λ e. refl) s.kept
 lists_rise : (n : Net) (imps : List ℕ) → All Rises (flat_map (flows_at n) imps)
 lists_rise n [] = All-nil Rises
 lists_rise n (i ∷ imps) = All-append Rises (flows_at n i) (flat_map (flows_at n) imps)
-    (All-cons Rises (sources_of (imp_at n.imps i)) (kept_of (imp_at n.imps i) ∷ []) (sources_rise (imp_at n.imps i))
-    (All-cons Rises (kept_of (imp_at n.imps i)) [] (kept_rise (imp_at n.imps i)) (All-nil Rises)))
+    (All-cons Rises (sources_of (imp_at n.imps i)) (kept_of _ ∷ []) (sources_rise _)
+    (All-cons Rises (kept_of _) [] (kept_rise _) (All-nil Rises)))
     (lists_rise n imps)
 
 lists_long : (n m : Net) (imps : List ℕ) → length (flat_map (flows_at n) imps) ≡ length (flat_map (flows_at m) imps)
@@ -84,8 +84,8 @@ pub rises : (n m : Net) → IsTold n → IsTold m → IsOneNetwork n m → AreOf
 rises n m p q one = record {
   fixed = length-map (all_parts n) (named n) ∙ ap (λ (parts : List Part). length parts) (same_parts n m p q one)
       ∙ sym (length-map (all_parts m) (named m));
-  lists = lists_long n m (imps_of n)
+  lists = lists_long n m _
       ∙ ap (λ (imps : List ℕ). length (flat_map (flows_at m) imps)) (same_imps n m p q one);
-  rose = lists_rise n (imps_of n);
-  rise = lists_rise m (imps_of m);
+  rose = lists_rise n _;
+  rise = lists_rise m _;
 }

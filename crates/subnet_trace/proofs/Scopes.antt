@@ -1,5 +1,6 @@
 -- What is outside of an event's scope stays, and the parts that are in it are put in their places.
-use Rattle.subnet_trace.proofs.Common.{false≢true, nat_tests, get_or-set_other, length-map, Host, CarrierFault, Inbound, NetEvent, Crossing, Direction, Frame, ImpTurn, State, from_host, to_host, RawEvent, Kept, refusal_of, running, step_grows, take_grows, subnet_calls, named, OnlyIn, has_imp, has_line, IsOnlyIn, IsOneNetwork, ends_of, Scope, put_at, put_text, member, object, subnet_inside, AllParts}
+use Rattle.subnet_trace.proofs.Common.{false≢true, nat_tests, get_or-set_other, length-map, Host, CarrierFault, Inbound, NetEvent, Crossing, Direction, Frame, ImpTurn, State, RawEvent, Kept, refusal_of, running, subnet_calls, named, OnlyIn, has_imp, has_line, IsOnlyIn, IsOneNetwork, ends_of, Scope, put_at, put_text, member, object, subnet_inside, AllParts}
+use Rattle.subnet.specs.Calls.{step_grows, take_grows}
 use Rattle.std.proofs.Common.{◌≡◌, ◌≢◌, inl, inr, ℕ, zero, suc, ◌<◌, ◌≤◌, ◌+◌, ◌==◌, ◌||◌, Bool, true, false, List, [], ◌∷◌, ◌++◌, codes, if◌then◌else◌, length, map, nat_lt, Option, Some, None, Result, Ok, Err, slice_get, refl, sym, ap, ap₂, subst, ◌∙◌, arith, is_ok}
 use Rattle.replay.specs.Output.{Shown, shown_crossings, shown_refusal}
 use Rattle.replay.specs.Replay.{GoesOn, Happens, IsOneCall, outcome_of, EventGives}
@@ -45,7 +46,7 @@ deliver_stays n l d k ok = by (slice_get (frames_on d (wire_at n.lines l)) k) wh
 
   by : (o : Option Frame) → Stays (scope_of_delivery n l d) n (delivered n l d o)
   by None = all_stays (scope_of_delivery n l d) n n refl
-  by (Some f) = subst (λ (s : Scope). Stays s n (delivered n l d (Some f))) (sym is) (at_stays n (far_end d (wire_at n.lines l)) _ (delivered n l d (Some f)).log)
+  by (Some f) = subst (λ (s : Scope). Stays s n (delivered n l d (Some f))) (sym is) (at_stays n _ _ _)
 
 drop_stays : (n : Net) (l : ℕ) (d : Direction) (k : ℕ) → Stays (scope.Line l) n (drop_frame n l d k)
 drop_stays n l d k = record { imps = λ i none. refl; wires = λ m none. get_or-set_other n.lines l m (dropping d k (wire_at n.lines l)) no_wire (apart_from m l none) }
@@ -63,20 +64,20 @@ step_stays n (net.Garble l d k) ok = drop_stays n l d k
 step_stays n (net.ImpDown i) ok = stop_stays n i
 step_stays n (net.ImpUp i) ok = start_stays n i
 -- every other event is a call of one IMP
-step_stays n e ok = at_stays n _ _ (stepped n e).log
+step_stays n e ok = at_stays n _ _ _
 
 into : (s : Scope) (n left new : Net) → Stays s n left → new ≡ left → Stays s n new
 into s n left new h e = subst (Stays s n) (sym e) h
 
 left_stays : (old new : Kept) (e : RawEvent) → Left old new e → Stays (scope_of old.net e) old.net new.net
-left_stays old new (event.Out m) (inl same) = all_stays _ old.net new.net (ap (λ (k : Kept). k.net) same)
+left_stays old new (event.Out m) (inl same) = all_stays _ _ _ (ap (λ (k : Kept). k.net) same)
 left_stays old new (event.Out m) (inr left) =
-    into (scope.ImpAndLines m.flow.source.imp) old.net (offer_out old.net m) new.net (at_stays old.net m.flow.source.imp (λ s. from_host s m) (offer_out old.net m).log) (ap (λ (k : Kept). k.net) left)
-left_stays old new (event.Take h) (inl same) = all_stays _ old.net new.net (ap (λ (k : Kept). k.net) same)
+    into _ _ _ _ (at_stays _ _ _ _) (ap (λ (k : Kept). k.net) left)
+left_stays old new (event.Take h) (inl same) = all_stays _ _ _ (ap (λ (k : Kept). k.net) same)
 left_stays old new (event.Take h) (inr left) =
-    into (scope.ImpAndLines h.imp) old.net (take_in old.net h) new.net (at_stays old.net h.imp (λ s. to_host s h.host) (take_in old.net h).log) (ap (λ (k : Kept). k.net) left)
-left_stays old new (event.Net e) (inl same) = all_stays _ old.net new.net (ap (λ (k : Kept). k.net) same)
-left_stays old new (event.Net e) (inr left) = into (scope_of old.net (event.Net e)) old.net (stepped old.net e) new.net (step_stays old.net e left.0) (ap (λ (k : Kept). k.net) left.1)
+    into _ _ _ _ (at_stays _ h.imp _ _) (ap (λ (k : Kept). k.net) left)
+left_stays old new (event.Net e) (inl same) = all_stays _ _ _ (ap (λ (k : Kept). k.net) same)
+left_stays old new (event.Net e) (inr left) = into _ _ _ _ (step_stays _ e left.0) (ap (λ (k : Kept). k.net) left.1)
 left_stays old new (event.Calm rounds) left = absurd left
 
 -- ---- by the network after it
@@ -103,7 +104,7 @@ lines_same old new one = sym (length-map new.lines ends_of) ∙ sym (ap length o
 
 scope_same : (old new : Net) (e : RawEvent) → IsOneNetwork old new → scope_of old e ≡ scope_of new e
 scope_same old new (event.Net (net.Deliver l d k)) one =
-    ap₂ (λ (n : ℕ) (i : ℕ). if nat_lt l n then scope.ImpAndLines i else scope.Nothing) (sym (lines_same old new one)) (far_of d (wire_at old.lines l) (wire_at new.lines l) (ends_same old.lines new.lines l one.lines))
+    ap₂ (λ (n : ℕ) (i : ℕ). if nat_lt l n then scope.ImpAndLines i else scope.Nothing) (sym (lines_same old new one)) (far_of d _ _ (ends_same _ _ l one.lines))
 scope_same old new e one = refl
 
 has_same : (s : Scope) (l : ℕ) (w v : Wire) → ends_of w ≡ ends_of v → has_line s l w ≡ has_line s l v
@@ -124,15 +125,15 @@ only_in texts e crossings r new h =
     let k : Happens subnet_calls old e new shown = happens subnet_calls parts_kept texts e crossings r new h in
     let kept = keeps old new e shown h.one_call k in
     let stays : Stays (scope_of old.net e) old.net new.net = left_stays old new e (left_of old new e shown h.one_call k) in
-    let same : scope_of old.net e ≡ scope_of new.net e = scope_same old.net new.net e kept.network in record {
+    let same : scope_of old.net e ≡ scope_of new.net e = scope_same _ _ e kept.network in record {
       old = old.net;
       known = h.known;
       same = record {
         sites = sym kept.network.sites;
         places = kept.places;
-        lines = lines_same old.net new.net kept.network;
+        lines = lines_same _ _ kept.network;
         imps = λ i none. stays.imps i (ap (λ (s : Scope). has_imp s i) same ∙ none);
-        wires = λ l none. stays.wires l (has_same (scope_of old.net e) l (wire_at old.net.lines l) (wire_at new.net.lines l) (ends_same old.net.lines new.net.lines l kept.network.lines) ∙ ap (λ (s : Scope). has_line s l (wire_at new.net.lines l)) same ∙ none);
+        wires = λ l none. stays.wires l (has_same _ l _ _ (ends_same _ _ l kept.network.lines) ∙ ap (λ (s : Scope). has_line s l (wire_at new.net.lines l)) same ∙ none);
       };
     }
 
@@ -141,13 +142,13 @@ not_done : (r : Result (Unit {0}) CarrierFault) (f : CarrierFault) → r ≡ Err
 not_done r f is e = absurd (cc)
 
 take_refused : (old new : Kept) (h : Host) (f : CarrierFault) (answer : Result (Option Inbound) CarrierFault) → subnet_calls.takes old h answer new → Err f ≡ outcome_of answer → GoesOn (Err f) → new ≡ old
-take_refused old new h f (Ok taken) gives is goes = absurd (not_done (Err f) f refl is)
+take_refused old new h f (Ok taken) gives is goes = absurd (not_done _ f refl is)
 take_refused old new h f (Err g) gives is goes =
     went {T = Option Inbound} (λ given. (given ≡ taken_by_host old.net h) × (new ≡ running (take_in old.net h))) (refusal_of old (λ n. take_refusal n h)) (take_grows old.net h) old new (Err g) gives (subst GoesOn is goes)
 
 refused_same : (old new : Kept) (e : RawEvent) (f : CarrierFault) → IsOneCall e → EventGives subnet_calls old e (Err f) new → GoesOn (Err f) → new ≡ old
 refused_same old new (event.Out m) f one gives goes = went {T = Unit {0}} (λ done. new ≡ running (offer_out old.net m)) (refusal_of old (λ n. offer_refusal n m)) true old new (Err f) gives goes
-refused_same old new (event.Take h) f one gives goes = take_refused old new h f gives.0 gives.1 gives.2 goes
+refused_same old new (event.Take h) f one gives goes = take_refused old new h f _ gives.1 gives.2 goes
 refused_same old new (event.Net e) f one gives goes = went {T = Unit {0}} (λ done. new ≡ running (stepped old.net e)) (refusal_of old (λ n. step_refusal n e)) (step_grows old.net e) old new (Err f) gives goes
 refused_same old new (event.Calm rounds) f one gives goes = absurd one
 
@@ -166,7 +167,7 @@ pub none_are : (texts : List (List ℕ)) (s : Scope) (new : Net) (r : IsOnlyIn s
 none_are texts s new r text empty =
     subst (λ (t : List ℕ). PutSoFar texts (parts_members new (all_parts new)) 0 texts t (imps_left r.0 0) (imps_left new 0)) (sym empty)
     (subst (λ (os : List (List ℕ)). PutSoFar texts (parts_members new (all_parts new)) 0 texts [] os (imps_left new 0)) (r.1 ∙ sym (whole_left r.0))
-    (subst (λ (ns : List (List ℕ)). PutSoFar texts (parts_members new (all_parts new)) 0 texts [] texts ns) (sym (whole_left new)) (none_put texts (parts_members new (all_parts new))))) where
+    (subst (λ (ns : List (List ℕ)). PutSoFar texts (parts_members new (all_parts new)) 0 texts [] texts ns) (sym (whole_left new)) (none_put texts _))) where
       whole_left : (n : Net) → imps_left n 0 ≡ parts_members n (all_parts n)
       whole_left n = none_listed n
 
@@ -182,7 +183,7 @@ pub imp_put : (texts : List (List ℕ)) (s : Scope) (new : Net) (r : IsOnlyIn s 
     → PutSoFar texts (parts_members new (all_parts new)) place known text (imps_left r.0 i) (imps_left new i) → PutSoFar texts (parts_members new (all_parts new)) (place + 1) later longer (imps_left r.0 (i + 1)) (imps_left new (i + 1))
 imp_put texts s new r i place may known later text longer lt there test put added so =
     let was : i < length r.0.imps = omega (arith, lt, r.2.places) in
-    put_more may texts (parts_members new (all_parts new)) place known later text longer (imps_left r.0 (i + 1)) (imps_left new (i + 1)) (named r.0 (Imp i)) (named new (Imp i))
+    put_more may texts _ place known later text longer _ _ _ _
     (λ none. ap (λ o. member (part_name (Imp i)) (imp_text o)) (r.2.imps i (sym test ∙ none))) put added
     (subst (λ (ns : List (List ℕ)). PutSoFar texts (parts_members new (all_parts new)) place known text (named r.0 (Imp i) ∷ imps_left r.0 (i + 1)) ns) (is_imp_of new i true there lt)
     (subst (λ (os : List (List ℕ)). PutSoFar texts (parts_members new (all_parts new)) place known text os (imps_left new i)) (is_imp_of r.0 i true (site_is texts s new r i true there) was) so))
@@ -209,7 +210,7 @@ pub line_put : (texts : List (List ℕ)) (s : Scope) (new : Net) (r : IsOnlyIn s
     → PutSoFar texts (parts_members new (all_parts new)) place known text (lines_left r.0 l) (lines_left new l) → PutSoFar texts (parts_members new (all_parts new)) (place + 1) later longer (lines_left r.0 (l + 1)) (lines_left new (l + 1))
 line_put texts s new r l place may known later text longer lt test put added so =
     let was : l < length r.0.lines = omega (arith, lt, r.2.lines) in
-    put_more may texts (parts_members new (all_parts new)) place known later text longer (lines_left r.0 (l + 1)) (lines_left new (l + 1)) (named r.0 (Line l)) (named new (Line l))
+    put_more may texts _ place known later text longer _ _ _ _
     (λ none. ap (λ (w : Wire). member (part_name (Line l)) (line_text w)) (r.2.wires l (sym test ∙ none))) put added
     (subst (λ (ns : List (List ℕ)). PutSoFar texts (parts_members new (all_parts new)) place known text (named r.0 (Line l) ∷ lines_left r.0 (l + 1)) ns) (lines_next new l lt)
     (subst (λ (os : List (List ℕ)). PutSoFar texts (parts_members new (all_parts new)) place known text os (lines_left new l)) (lines_next r.0 l was) so))
@@ -219,12 +220,12 @@ pub imp_there : (texts : List (List ℕ)) (s : Scope) (new : Net) (r : IsOnlyIn 
     → PutSoFar texts (parts_members new (all_parts new)) place known text (imps_left r.0 i) (imps_left new i) → place < length known
 imp_there texts s new r i place known text lt there so =
     let was : i < length r.0.imps = omega (arith, lt, r.2.places) in
-    is_within texts (parts_members new (all_parts new)) place known text (imps_left r.0 (i + 1)) (imps_left new i) (named r.0 (Imp i))
+    is_within texts _ place known text _ _ _
     (subst (λ (os : List (List ℕ)). PutSoFar texts (parts_members new (all_parts new)) place known text os (imps_left new i)) (is_imp_of r.0 i true (site_is texts s new r i true there) was) so)
 
 pub line_there : (texts : List (List ℕ)) (s : Scope) (new : Net) (r : IsOnlyIn s texts new) (l place : ℕ) (known : List (List ℕ)) (text : List ℕ) → l < length new.lines
     → PutSoFar texts (parts_members new (all_parts new)) place known text (lines_left r.0 l) (lines_left new l) → place < length known
 line_there texts s new r l place known text lt so =
     let was : l < length r.0.lines = omega (arith, lt, r.2.lines) in
-    is_within texts (parts_members new (all_parts new)) place known text (lines_left r.0 (l + 1)) (lines_left new l) (named r.0 (Line l))
+    is_within texts _ place known text _ _ _
     (subst (λ (os : List (List ℕ)). PutSoFar texts (parts_members new (all_parts new)) place known text os (lines_left new l)) (lines_next r.0 l was) so)

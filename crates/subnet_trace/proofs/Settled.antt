@@ -1,6 +1,6 @@
 -- After a quiet round the pump would move nothing more in any IMP, whatever waited before.
 use Rattle.subnet_trace.proofs.Common.{nat_tests, get_or_past, range_with_len, Host, Direction, PacketFields, vector_of, ChannelFault, Frame, Received, pump, Net, far_end, frames_on, imp_at, port_of, wire_at}
-use Rattle.std.proofs.Common.{◌≡◌, ◌≤◌, ◌<◌, ◌==◌, ◌⊎◌, inl, inr, ℕ, zero, suc, ◌+◌, nat_lt, Bool, false, List, [], ◌∷◌, if◌then◌else◌, length, Option, Some, None, Result, Ok, Err, slice_get, slice_set, refl, sym, ap, ◌∙◌, subst, arith, true, slice_index_or}
+use Rattle.std.proofs.Common.{◌≡◌, ◌≤◌, ◌<◌, ◌==◌, ◌⊎◌, inl, inr, ℕ, zero, suc, ◌+◌, nat_lt, Bool, false, List, [], ◌∷◌, if◌then◌else◌, length, Option, Some, None, Result, Ok, slice_set, refl, sym, ap, ◌∙◌, subst, arith, true, slice_index_or}
 use Rattle.imp_channel.specs.Line.{answer_to}
 use Rattle.imp_node.specs.Arrival.{arrival, arrival_has_room, arrived, frame_taken, from_line, ignored, taken_frame, acknowledged, vector_heard}
 use Rattle.imp_node.specs.Lines.{resend, resent_from, route, told_from}
@@ -15,7 +15,7 @@ use Rattle.subnet_trace.proofs.Rest.{not_some, some_is}
 
 -- a frame is ignored, or the pump ends the call
 line_still : (s : State) (k : ℕ) (f : Frame) → IsStill s → IsStill (from_line s k f).state
-line_still s k f h = by_up (port_at s.ports k).up where
+line_still s k f h = by_up _ where
   by_room : (p : PacketFields) (b : Bool) → IsStill (if b then pump (acknowledged k (frame_taken k f s)) (arrived (arrival s p) p (frame_taken k f s)) else ignored s).state
   by_room p true = pump_still (acknowledged k (frame_taken k f s)) (arrived (arrival s p) p (frame_taken k f s))
   by_room p false = h
@@ -25,7 +25,7 @@ line_still s k f h = by_up (port_at s.ports k).up where
   by_answer (Ok received.Repeat) = pump_still (acknowledged k (frame_taken k f s)) (frame_taken k f s)
   by_answer (Ok received.AckOnly) = pump_still [] (frame_taken k f s)
   by_answer (Ok (received.Routes distances)) = pump_still [] (vector_heard k distances (frame_taken k f s))
-  by_answer (Err fault) = h
+  by_answer _ = h
 
   by_up : (b : Bool) → IsStill (if b then taken_frame (answer_to (port_at s.ports k).line f) k f s else ignored s).state
   by_up true = by_answer (answer_to (port_at s.ports k).line f)
@@ -60,7 +60,7 @@ at_settled : (n : Net) (i : ℕ) (call : State → ImpTurn) → ((s : State) →
 at_settled n i call each j h = by (imp_at n.imps i) refl where
   by : (o : Option State) → imp_at n.imps i ≡ o → IsSettledAt (at_imp o i call n) j
   by None down = h
-  by (Some s) up = λ t is. found t is (set_at n.imps i j (Some (call s).state) None) where
+  by (Some s) up = λ t is. found t is (set_at n.imps i j _ None) where
     found : (t : State) → imp_at (slice_set n.imps i (Some (call s).state)) j ≡ Some t
         → ((j ≡ i) × (imp_at (slice_set n.imps i (Some (call s).state)) j ≡ Some (call s).state)) ⊎ (imp_at (slice_set n.imps i (Some (call s).state)) j ≡ imp_at n.imps j) → IsStill t
     found t is (inl here) = subst IsStill (some_is (sym here.1 ∙ is)) (each s (h s (ap (imp_at n.imps) here.0 ∙ up)))
@@ -71,7 +71,7 @@ at_settles : (n : Net) (i : ℕ) (call : State → ImpTurn) → ((s : State) →
 at_settles n i call each = by (imp_at n.imps i) refl where
   by : (o : Option State) → imp_at n.imps i ≡ o → IsSettledAt (at_imp o i call n) i
   by None down = λ t is. absurd (not_some (sym down ∙ is))
-  by (Some s) up = λ t is. subst IsStill (some_is (sym (set_here n.imps i s (Some (call s).state) up) ∙ is)) (each s)
+  by (Some s) up = λ t is. subst IsStill (some_is (sym (set_here n.imps i s _ up) ∙ is)) (each s)
 
 -- ---- sending distances and sending again
 
@@ -117,12 +117,12 @@ every_settles n j = by (nat_lt j (length n.imps)) refl where
 delivered_settled : (n : Net) (l : ℕ) (d : Direction) (o : Option Frame) (j : ℕ) → IsSettledAt n j → IsSettledAt (delivered n l d o) j
 delivered_settled n l d None j h = h
 delivered_settled n l d (Some f) j h =
-    let i : ℕ = far_end d (wire_at n.lines l) in
-    at_settled n i (λ s. from_line s (port_of n.lines i l) f) (λ s still. line_still s (port_of n.lines i l) f still) j h
+    let i : ℕ = far_end d _ in
+    at_settled n i _ (λ s still. line_still s (port_of n.lines i l) f still) j h
 
 carried_settled : (count l : ℕ) (d : Direction) (n : Net) (j : ℕ) → IsSettledAt n j → IsSettledAt (carried count l d n) j
 carried_settled zero l d n j h = h
-carried_settled (suc count) l d n j h = carried_settled count l d (drop_frame (deliver n l d 0) l d 0) j (delivered_settled n l d (slice_get (frames_on d (wire_at n.lines l)) 0) j h)
+carried_settled (suc count) l d n j h = carried_settled count l d (drop_frame (deliver n l d 0) l d 0) j (delivered_settled n l d _ j h)
 
 turns_settled : (lines : List ℕ) (n : Net) (j : ℕ) → IsSettledAt n j → IsSettledAt (all_turns lines n) j
 turns_settled [] n j h = h

@@ -1,6 +1,5 @@
 -- Offers and takings that change no part.
-use Rattle.subnet_trace.proofs.Common.{◌≡◌, ◌∙◌, Bool, true, false, IfSome, length, Option, None, Ok, Err, ap, sym, subst, is_memory, Host, CarrierFault, HostMessage, State, Fails, Kept, refusal_of, take_grows, Net, imp_at, subnet_calls, subnet_inside, parts_of_net}
-use Rattle.subnet.specs.Events.{offer_refusal, take_refusal}
+use Rattle.subnet_trace.proofs.Common.{◌≡◌, ◌∙◌, Bool, true, false, IfSome, length, Option, None, Ok, Err, ap, sym, subst, is_memory, Host, CarrierFault, HostMessage, State, Fails, Kept, Net, imp_at, subnet_calls, subnet_inside, parts_of_net}
 use Rattle.imp_node.proofs.lemmas.{pump_rests}
 use Rattle.subnet_trace.proofs.Nothing.{none_taken_at}
 use Rattle.subnet_trace.proofs.Settled.{IsSettledAt}
@@ -11,10 +10,10 @@ refused_leaves : (refusal : Option CarrierFault) (grows : Bool) (e : CarrierFaul
 refused_leaves refusal grows e old new lasts h = (subst (λ (b : Bool). Fails refusal grows b e old new) lasts h).1
 
 pub offer_keeps : (old new : Kept) (m : HostMessage) (e : CarrierFault) → is_memory e ≡ false → subnet_calls.offers old m (Err e) new → subnet_inside.members new ≡ subnet_inside.members old
-offer_keeps old new m e lasts h = ap subnet_inside.members (refused_leaves (refusal_of old (λ n. offer_refusal n m)) true e old new lasts h)
+offer_keeps old new m e lasts h = ap subnet_inside.members (refused_leaves _ true e old new lasts h)
 
 pub take_keeps : (old new : Kept) (h : Host) (e : CarrierFault) → is_memory e ≡ false → subnet_calls.takes old h (Err e) new → subnet_inside.members new ≡ subnet_inside.members old
-take_keeps old new h e lasts t = ap subnet_inside.members (refused_leaves (refusal_of old (λ n. take_refusal n h)) (take_grows old.net h) e old new lasts t)
+take_keeps old new h e lasts t = ap subnet_inside.members (refused_leaves _ _ e old new lasts t)
 
 -- ---- a taking by which the host gets nothing
 

@@ -1,9 +1,9 @@
 -- Words, bits, packets, messages, channels and what is known of flows have texts of their own.
 use Rattle.subnet_trace.proofs.Common.{◌≡◌, ℕ, ◌==◌, Bool, true, false, List, [], ◌∷◌, ◌++◌, codes, if◌then◌else◌, Option, Some, None, IfSome, refl, sym, ap, ap₂, ◌∙◌, All-append, All-nil, decimal, Flow, PacketFields, flow_of, PacketKind, Channel, Fate, Noted, Standing, State, Message, Told, told, FlowPart}
 use Rattle.link_table.specs.Flows.{last_of}
-use Rattle.trace.specs.Texts.{bool_text, member, quoted, bits_members, flow_members}
+use Rattle.trace.specs.Texts.{member, quoted, bits_members, flow_members}
 use Rattle.trace.proofs.lemmas.{AreClosed, IsClosed, Spelled, also_closed, decimal_closed, first_same, member_once, none_closed, object_closed, object_once, rest_same, short_once, Words, answer_spelled, bits_closed, bits_same, flow_closed, flow_same, other_first, part_once, strings_spelled}
-use Rattle.subnet_trace.specs.Texts.{bit_text, bits_text, channel_text, held_members, kind_word, packet_text, told_text, whole_text, kept_part, source_part, awaits_host, fate_state, piece_members, standing_state}
+use Rattle.subnet_trace.specs.Texts.{bit_text, bits_text, channel_text, held_members, kind_word, packet_text, told_text, whole_text, kept_part, source_part, fate_state, piece_members, standing_state}
 use Rattle.subnet_trace.specs.Told.{IsAnswerTold, IsChannelTold, IsFlowNamed, IsKeptTold, IsMessageTold, IsPacketTold, IsSourceTold}
 use Rattle.std.specs.Str.{bytes_eq}
 use Rattle.packetiser.specs.declared.packet.PacketKind.TheVariants as kind
@@ -46,10 +46,10 @@ some_bits false r e = absurd (cc)
 
 bits_once : (a b : List Bool) → bits_text a ≡ bits_text b → a ≡ b
 bits_once [] [] e = refl
-bits_once [] (y ∷ b) e = absurd (some_bits y (bits_text b) e)
-bits_once (x ∷ a) [] e = absurd (some_bits x (bits_text a) (sym e))
+bits_once [] (y ∷ b) e = absurd (some_bits y _ e)
+bits_once (x ∷ a) [] e = absurd (some_bits x _ (sym e))
 bits_once (x ∷ a) (y ∷ b) e =
-    let same = bit_head x y (bits_text a) (bits_text b) e in
+    let same = bit_head x y _ _ e in
     ap₂ (λ (z : Bool) (zs : List Bool). z ∷ zs) same.first (bits_once a b same.behind)
 
 bit_plain : (b : Bool) → Lacks 34 (bit_text b)
@@ -100,20 +100,20 @@ packet_members p = member (codes "kind") (quoted (kind_word p.kind)) ∷ (flow_m
 packet_closed : (p : PacketFields) → IsPacketTold p → AreClosed (packet_members p)
 packet_closed p is =
     also_closed (codes "kind") refl (kind_spelled.closed p.kind tt)
-    (flow_closed (flow_of p) is.flow
+    (flow_closed _ is.flow
     (also_closed (codes "number") refl (decimal_closed p.number)
     (also_closed (codes "place") refl (decimal_closed p.place)
     (also_closed (codes "last") refl (bool_spelled.closed p.last tt) (bits_closed p.bits)))))
 
 packet_once : (p q : PacketFields) → IsPacketTold p → IsPacketTold q → packet_text p ≡ packet_text q → p ≡ q
 packet_once p q ps qs e =
-    let all = object_once (packet_members p) (packet_members q) (packet_closed p ps).all (packet_closed q qs).all e in
-    let kinds : p.kind ≡ q.kind = kind_spelled.once p.kind q.kind tt tt (member_once (codes "kind") (quoted (kind_word p.kind)) (quoted (kind_word q.kind)) (first_same all)) in
-    let flows = flow_same (flow_of p) (flow_of q) (piece_members p) (piece_members q) ps.flow qs.flow (rest_same all) in
+    let all = object_once _ _ (packet_closed p ps).all (packet_closed q qs).all e in
+    let kinds : p.kind ≡ q.kind = kind_spelled.once p.kind q.kind tt tt (member_once (codes "kind") _ _ (first_same all)) in
+    let flows = flow_same (flow_of p) (flow_of q) _ _ ps.flow qs.flow (rest_same all) in
     let pieces = flows.behind in
-    let number : p.number ≡ q.number = short_once p.number q.number ps.number qs.number (member_once (codes "number") (decimal p.number) (decimal q.number) (first_same pieces)) in
-    let place : p.place ≡ q.place = short_once p.place q.place ps.place qs.place (member_once (codes "place") (decimal p.place) (decimal q.place) (first_same (rest_same pieces))) in
-    let last : p.last ≡ q.last = bool_spelled.once p.last q.last tt tt (member_once (codes "last") (bool_text p.last) (bool_text q.last) (first_same (rest_same (rest_same pieces)))) in
+    let number : p.number ≡ q.number = short_once _ _ ps.number qs.number (member_once (codes "number") _ _ (first_same pieces)) in
+    let place : p.place ≡ q.place = short_once _ _ ps.place qs.place (member_once (codes "place") _ _ (first_same (rest_same pieces))) in
+    let last : p.last ≡ q.last = bool_spelled.once p.last q.last tt tt (member_once (codes "last") _ _ (first_same (rest_same (rest_same pieces)))) in
     let bits : p.bits ≡ q.bits = bits_same p.bits q.bits (rest_same (rest_same (rest_same pieces))) in
     let flow : flow_of p ≡ flow_of q = flows.first in
     λ i. record { kind = kinds i; source = (flow i).source; destination = (flow i).destination; link = (flow i).link.0; number = number i; place = place i; last = last i; bits = bits i }
@@ -131,9 +131,9 @@ whole_closed m is = flow_closed m.flow is.flow (also_closed (codes "number") ref
 
 whole_once : (m n : Message) → IsMessageTold m → IsMessageTold n → whole_text m ≡ whole_text n → m ≡ n
 whole_once m n ms ns e =
-    let all = object_once (flow_members m.flow ++ numbered_bits m.number m.text) (flow_members n.flow ++ numbered_bits n.number n.text) (whole_closed m ms).all (whole_closed n ns).all e in
-    let flows = flow_same m.flow n.flow (numbered_bits m.number m.text) (numbered_bits n.number n.text) ms.flow ns.flow all in
-    let number : m.number ≡ n.number = short_once m.number n.number ms.number ns.number (member_once (codes "number") (decimal m.number) (decimal n.number) (first_same flows.behind)) in
+    let all = object_once _ _ (whole_closed m ms).all (whole_closed n ns).all e in
+    let flows = flow_same m.flow n.flow _ _ ms.flow ns.flow all in
+    let number : m.number ≡ n.number = short_once _ _ ms.number ns.number (member_once (codes "number") _ _ (first_same flows.behind)) in
     let text : m.text ≡ n.text = bits_same m.text n.text (rest_same flows.behind) in
     λ i. record { flow = flows.first i; number = number i; text = text i }
 
@@ -161,19 +161,19 @@ held_once : (o r : Option PacketFields) → IfSome o IsPacketTold → IfSome r I
 held_once None None p q e = refl
 held_once None (Some y) p q e = absurd (none_left e)
 held_once (Some x) None p q e = absurd (none_left (sym e))
-held_once (Some x) (Some y) p q e = ap (λ (z : PacketFields). Some z) (packet_spelled.once x y p q (member_once (codes "packet") (packet_text x) (packet_text y) (first_same e)))
+held_once (Some x) (Some y) p q e = ap (λ (z : PacketFields). Some z) (packet_spelled.once x y p q (member_once (codes "packet") _ _ (first_same e)))
 
 abbrev channel_members : Channel → List (List ℕ)
 channel_members c = member (codes "bit") (bit_text c.bit) ∷ held_members c.packet
 
 channel_closed : (c : Channel) → IsChannelTold c → AreClosed (channel_members c)
-channel_closed c is = also_closed (codes "bit") refl (bit_spelled.closed c.bit tt) (held_closed c.packet is)
+channel_closed c is = also_closed (codes "bit") refl (bit_spelled.closed c.bit tt) (held_closed _ is)
 
 channel_once : (c d : Channel) → IsChannelTold c → IsChannelTold d → channel_text c ≡ channel_text d → c ≡ d
 channel_once c d p q e =
-    let all = object_once (channel_members c) (channel_members d) (channel_closed c p).all (channel_closed d q).all e in
-    let bit : c.bit ≡ d.bit = bit_spelled.once c.bit d.bit tt tt (member_once (codes "bit") (bit_text c.bit) (bit_text d.bit) (first_same all)) in
-    let packet : c.packet ≡ d.packet = held_once c.packet d.packet p q (rest_same all) in
+    let all = object_once _ _ (channel_closed c p).all (channel_closed d q).all e in
+    let bit : c.bit ≡ d.bit = bit_spelled.once c.bit d.bit tt tt (member_once (codes "bit") _ _ (first_same all)) in
+    let packet : c.packet ≡ d.packet = held_once _ _ p q (rest_same all) in
     λ i. record { bit = bit i; packet = packet i }
 
 pub channel_spelled : Spelled channel_text IsChannelTold
@@ -196,8 +196,8 @@ standing_again waits (standing.Answered l) = refl
 -- of two IMPs
 pub source_once : (s t : State) (e f : Flow × Standing) → IsSourceTold e → IsSourceTold f → told (source_part s e) ≡ told (source_part t f) → e ≡ f
 source_once s t e f p q h =
-    let same : source_part s e ≡ source_part t f = part_once (source_part s e) (source_part t f) (record { flow = p.flow; number = p.number }) (record { flow = q.flow; number = q.number }) h in
-    let standings : e.1 ≡ f.1 = sym (standing_again (awaits_host s e.0) e.1) ∙ ap (λ (x : FlowPart). standing_in x.state x.number) same ∙ standing_again (awaits_host t f.0) f.1 in
+    let same : source_part s e ≡ source_part t f = part_once _ _ (record { flow = p.flow; number = p.number }) (record { flow = q.flow; number = q.number }) h in
+    let standings : e.1 ≡ f.1 = sym (standing_again _ e.1) ∙ ap (λ (x : FlowPart). standing_in x.state x.number) same ∙ standing_again _ f.1 in
     λ i. ((same i).flow, standings i)
 
 fate_in : FlowState → Fate
@@ -215,6 +215,6 @@ fate_again fate.Never = refl
 
 pub kept_once : (e f : Flow × Noted) → IsKeptTold e → IsKeptTold f → told (kept_part e) ≡ told (kept_part f) → e ≡ f
 kept_once e f p q h =
-    let same : kept_part e ≡ kept_part f = part_once (kept_part e) (kept_part f) (record { flow = p.flow; number = p.number }) (record { flow = q.flow; number = q.number }) h in
-    let fates : e.1.fate ≡ f.1.fate = sym (fate_again e.1.fate) ∙ ap (λ (x : FlowPart). fate_in x.state) same ∙ fate_again f.1.fate in
+    let same : kept_part e ≡ kept_part f = part_once _ _ (record { flow = p.flow; number = p.number }) (record { flow = q.flow; number = q.number }) h in
+    let fates : e.1.fate ≡ f.1.fate = sym (fate_again _) ∙ ap (λ (x : FlowPart). fate_in x.state) same ∙ fate_again _ in
     λ i. ((same i).flow, record { number = (same i).number; fate = fates i })

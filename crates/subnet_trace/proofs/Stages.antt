@@ -1,8 +1,8 @@
 -- Stages of a round: what is left at one, and at the next.
-use Rattle.subnet_trace.proofs.Common.{◌≡◌, ℕ, zero, suc, ◌+◌, ◌-◌, ◌<◌, ◌≤◌, nat_lt, ◌⊎◌, inl, inr, Bool, true, false, List, [], ◌∷◌, ◌++◌, drop, if◌then◌else◌, length, get_or, Option, Some, None, slice_get, refl, sym, ap, ◌∙◌, subst, arith, length-set, range_with_len, Host, Direction, Frame, ImpTurn, State, Outgoing, RawEvent, Stage}
+use Rattle.subnet_trace.proofs.Common.{◌≡◌, ℕ, zero, suc, ◌+◌, ◌-◌, ◌<◌, ◌≤◌, nat_lt, ◌⊎◌, inl, inr, Bool, true, false, List, [], ◌∷◌, ◌++◌, drop, if◌then◌else◌, length, get_or, Option, Some, None, refl, sym, ap, ◌∙◌, subst, arith, length-set, range_with_len, Host, Direction, Frame, ImpTurn, State, Outgoing, RawEvent, Stage}
 use Rattle.std.proofs.lemmas.Bool.{false≢true, lt-ltb, ltb-false, ltb-true}
 use Rattle.subnet.specs.Events.{at_imp, gives, delivered, drop_frame, stepped, take_in}
-use Rattle.subnet.specs.Net.{Net, Wire, far_end, frames_on, imp_at, line_from, put_all, put_on, put_one, wire_at, with_frame, dropping}
+use Rattle.subnet.specs.Net.{Net, Wire, imp_at, put_all, put_on, put_one, wire_at, with_frame, dropping}
 use Rattle.trace.specs.Elements.{Course, no_course, takings_from, then_course, one_event, taking}
 use Rattle.trace.proofs.lemmas.{then_twice, passes, takes_here, takings_all}
 use Rattle.subnet_trace.specs.Elements.{all_refreshing, all_turning, calling, can_resend, carrying, delivering, from_subnet, imp_left, is_heard, is_working, live_frames, numbers_from, refreshing, round_from_line, round_left, round_of_hosts, sending, telling, turning, after_turn, round_from_imp, turn_left}
@@ -34,15 +34,15 @@ length_put_on lines i f (Some l) = length-set lines l (with_frame i f (wire_at l
 
 length_put_all : (lines : List Wire) (i : ℕ) (outs : List Outgoing) → length (put_all lines i outs) ≡ length lines
 length_put_all lines i [] = refl
-length_put_all lines i (out ∷ outs) = length_put_all (put_one lines i out) i outs ∙ length_put_on lines i out.frame (line_from 0 lines i out.port)
+length_put_all lines i (out ∷ outs) = length_put_all (put_one lines i out) i outs ∙ length_put_on lines i _ _
 
 at_imp_size : (n : Net) (i : ℕ) (o : Option State) (call : State → ImpTurn) → SameSize n (at_imp o i call n)
 at_imp_size n i None call = same_size n
-at_imp_size n i (Some s) call = record { hosts = refl; imps = length-set n.imps i (Some (call s).state); lines = length_put_all n.lines i (call s).frames }
+at_imp_size n i (Some s) call = record { hosts = refl; imps = length-set n.imps i (Some (call s).state); lines = length_put_all _ i (call s).frames }
 
 delivered_size : (n : Net) (l : ℕ) (d : Direction) (o : Option Frame) → SameSize n (delivered n l d o)
 delivered_size n l d None = same_size n
-delivered_size n l d (Some f) = at_imp_size n (far_end d (wire_at n.lines l)) (imp_at n.imps (far_end d (wire_at n.lines l))) _
+delivered_size n l d (Some f) = at_imp_size n _ _ _
 
 dropped_size : (n : Net) (l : ℕ) (d : Direction) → SameSize n (drop_frame n l d 0)
 dropped_size n l d = record { hosts = refl; imps = refl; lines = length-set n.lines l (dropping d 0 (wire_at n.lines l)) }
@@ -59,7 +59,7 @@ same_next {S} first f g e = ap (λ (c : Course S). record { elements = first.ele
 then_thrice : {S : Type 0} (first : Course S) (f g last : S → Course S)
     → then_course (then_course (then_course first f) g) last ≡ then_course first (λ s. then_course (f s) (λ t. then_course (g t) last))
 then_thrice {S} first f g last =
-    then_twice (then_course first f) g last ∙ then_twice first f (λ t. then_course (g t) last)
+    then_twice _ g last ∙ then_twice first f (λ t. then_course (g t) last)
 
 -- ---- numbers one after another
 
@@ -83,14 +83,14 @@ resender_works n i can = by (is_working n i) refl where
 sending_size : (round i : ℕ) (n : Net) → SameSize n (sending round i n).left
 sending_size round i n = by (can_resend n i) where
   by : (b : Bool) → SameSize n (if b then calling round (net.Resend i) n else no_course n).left
-  by true = at_imp_size n i (imp_at n.imps i) _
+  by true = at_imp_size n i _ _
   by false = same_size n
 
 -- what is left where an IMP is first
 imps_from : (round i : ℕ) (n : Net) → i < length n.imps
     → round_from_imp round i n ≡ then_course (telling round i n) (λ m. then_course (sending round i m) (λ o. then_course (all_refreshing round (numbers_from (i + 1) (length n.imps)) o) (round_from_line round 0)))
 imps_from round i n lt =
-    ap (λ is. then_course (all_refreshing round is n) (round_from_line round 0)) (numbers_here i (length n.imps) lt)
+    ap (λ is. then_course (all_refreshing round is n) (round_from_line round 0)) (numbers_here i _ lt)
     ∙ then_thrice (telling round i n) (sending round i) (all_refreshing round (numbers_from (i + 1) (length n.imps))) (round_from_line round 0)
 
 imp_tells : (round i : ℕ) (n : Net) → i < length n.imps → is_working n i ≡ true
@@ -130,7 +130,7 @@ carrying_size : (round l : ℕ) (d : Direction) (frames : ℕ) (n : Net) → Sam
 carrying_size round l d zero n = same_size n
 carrying_size round l d (suc frames) n = by (λ m. carrying_size round l d frames m) (nat_lt 0 (live_frames n l d)) where
   delivering_size : (b : Bool) → SameSize n (if b then calling round (net.Deliver l d 0) n else no_course n).left
-  delivering_size true = delivered_size n l d (slice_get (frames_on d (wire_at n.lines l)) 0)
+  delivering_size true = delivered_size n l d _
   delivering_size false = same_size n
 
   by : ((m : Net) → SameSize m (carrying round l d frames m).left) → (b : Bool)
@@ -138,13 +138,13 @@ carrying_size round l d (suc frames) n = by (λ m. carrying_size round l d frame
   by more true =
       let m : Net = (delivering round l d n).left in
       let o : Net = drop_frame m l d 0 in
-      size_then n m (carrying round l d frames o).left (delivering_size (is_heard n l d)) (size_then m o (carrying round l d frames o).left (dropped_size m l d) (more o))
+      size_then n m (carrying round l d frames o).left (delivering_size _) (size_then m o _ (dropped_size m l d) (more o))
   by more false = same_size n
 
 -- what is left where a line is first is its turn forward, and what follows that
 lines_from : (round l : ℕ) (n : Net) → l < length n.lines → round_from_line round l n ≡ round_left round (stage.Carrying l way.Forward (live_frames n l way.Forward) false) n
 lines_from round l n lt =
-    ap (λ ls. then_course (all_turning round ls n) (round_of_hosts round)) (numbers_here l (length n.lines) lt)
+    ap (λ ls. then_course (all_turning round ls n) (round_of_hosts round)) (numbers_here l _ lt)
     ∙ then_thrice (turning round l way.Forward n) (turning round l way.Back) (all_turning round (numbers_from (l + 1) (length n.lines))) (round_of_hosts round)
     ∙ ap (λ (count : ℕ). then_course (turning round l way.Forward n) (λ m. then_course (turning round l way.Back m) (λ o. then_course (all_turning round (numbers_from (l + 1) count) o) (round_of_hosts round)))) (sym same)
     ∙ same_next (turning round l way.Forward n) (λ m. then_course (turning round l way.Back m) (λ o. then_course (all_turning round (numbers_from (l + 1) (length last.lines)) o) (round_of_hosts round))) (after_turn round l way.Forward) refl
@@ -185,7 +185,7 @@ frame_dropped round l d frames n = then_twice (elements.dropping round l d n) (c
 -- after the last line come the hosts
 lines_past : (round l : ℕ) (n : Net) → length n.lines ≤ l → round_from_line round l n ≡ takings_from from_subnet round (drop 0 n.hosts) 16 n
 lines_past round l n le =
-    ap (λ ls. then_course (all_turning round ls n) (round_of_hosts round)) (numbers_past l (length n.lines) le) ∙ takings_all from_subnet round n.hosts n
+    ap (λ ls. then_course (all_turning round ls n) (round_of_hosts round)) (numbers_past l _ le) ∙ takings_all from_subnet round _ n
 
 -- ---- what comes next
 
@@ -245,7 +245,7 @@ frame_next n l d frames some live = by (is_heard n l d) refl where
 
 pub turn_left_over : (n : Net) (l : ℕ) (d : Direction) (frames : ℕ) (r : Option (RawEvent × Stage)) → (frames ≡ 0) ⊎ (live_frames n l d ≡ 0) → IsNext n (λ round. after_turn round l d n) r
     → IsNext n (λ round. round_left round (stage.Carrying l d frames false) n) r
-turn_left_over n l d frames r none h = next_as n (λ round. after_turn round l d n) (λ round. round_left round (stage.Carrying l d frames false) n) r (λ round. turn_over round l d frames n none) h
+turn_left_over n l d frames r none h = next_as n _ _ r (λ round. turn_over round l d frames n none) h
 
 -- turns
 turn_next : (n : Net) (l : ℕ) (d : Direction) (next : RawEvent × Stage) → turn_begun n l d ≡ Some next → IsNext n (λ round. round_left round (stage.Carrying l d (live_frames n l d) false) n) (Some next)
@@ -253,7 +253,7 @@ turn_next n l d next is = by (nat_lt 0 (live_frames n l d)) refl is where
   by : (b : Bool) → nat_lt 0 (live_frames n l d) ≡ b → (if b then Some (frame_moved n l d (live_frames n l d - 1)) else None) ≡ Some next → IsNext n (λ round. round_left round (stage.Carrying l d (live_frames n l d) false) n) (Some next)
   by true live e =
       let some : 0 < live_frames n l d = ltb-true 0 (live_frames n l d) live in
-      subst (λ (next : RawEvent × Stage). IsNext n (λ round. round_left round (stage.Carrying l d (live_frames n l d) false) n) (Some next)) (some_is e) (frame_next n l d (live_frames n l d) some some)
+      subst (λ (next : RawEvent × Stage). IsNext n (λ round. round_left round (stage.Carrying l d (live_frames n l d) false) n) (Some next)) (some_is e) (frame_next n l d _ some some)
   by false none e = absurd (not_some e)
 
 no_turn : (n : Net) (l : ℕ) (d : Direction) → turn_begun n l d ≡ None → live_frames n l d ≡ 0
@@ -271,24 +271,24 @@ other_next n l way.Forward next is = turn_next n l way.Back next is
 other_next n l way.Back next is = absurd (not_some is)
 
 pub line_over : (n : Net) (l : ℕ) (d : Direction) (r : Option (RawEvent × Stage)) → other_turn_begun n l d ≡ None → IsNext n (λ round. round_from_line round (l + 1) n) r → IsNext n (λ round. after_turn round l d n) r
-line_over n l way.Forward r none h = next_as n (λ round. round_from_line round (l + 1) n) (λ round. after_turn round l way.Forward n) r (λ round. no_back round l n none) h
+line_over n l way.Forward r none h = next_as n _ _ r (λ round. no_back round l n none) h
 line_over n l way.Back r none h = h
 
 pub forward_next : (n : Net) (l : ℕ) (next : RawEvent × Stage) → l < length n.lines → turn_begun n l way.Forward ≡ Some next → IsNext n (λ round. round_from_line round l n) (Some next)
 forward_next n l next lt is =
-    next_as n (λ round. round_left round (stage.Carrying l way.Forward (live_frames n l way.Forward) false) n) (λ round. round_from_line round l n) (Some next) (λ round. lines_from round l n lt) (turn_next n l way.Forward next is)
+    next_as n _ _ (Some next) (λ round. lines_from round l n lt) (turn_next n l way.Forward next is)
 
 no_forward : (round l : ℕ) (n : Net) → l < length n.lines → turn_begun n l way.Forward ≡ None → round_from_line round l n ≡ after_turn round l way.Forward n
 no_forward round l n lt none = lines_from round l n lt ∙ turn_over round l way.Forward (live_frames n l way.Forward) n (inr (no_turn n l way.Forward none))
 
 pub back_first : (n : Net) (l : ℕ) (next : RawEvent × Stage) → l < length n.lines → turn_begun n l way.Forward ≡ None → turn_begun n l way.Back ≡ Some next → IsNext n (λ round. round_from_line round l n) (Some next)
-back_first n l next lt none is = next_as n (λ round. after_turn round l way.Forward n) (λ round. round_from_line round l n) (Some next) (λ round. no_forward round l n lt none) (turn_next n l way.Back next is)
+back_first n l next lt none is = next_as n _ _ (Some next) (λ round. no_forward round l n lt none) (turn_next n l way.Back next is)
 
 pub line_passed : (n : Net) (l : ℕ) → l < length n.lines → turn_begun n l way.Forward ≡ None → turn_begun n l way.Back ≡ None → (round : ℕ) → round_from_line round (l + 1) n ≡ round_from_line round l n
 line_passed n l lt forward back round = sym (no_forward round l n lt forward ∙ no_back round l n back)
 
 pub lines_over : (n : Net) (l : ℕ) (r : Option (RawEvent × Stage)) → length n.lines ≤ l → IsNext n (λ round. takings_from from_subnet round (drop 0 n.hosts) 16 n) r → IsNext n (λ round. round_from_line round l n) r
-lines_over n l r le h = next_as n (λ round. takings_from from_subnet round (drop 0 n.hosts) 16 n) (λ round. round_from_line round l n) r (λ round. lines_past round l n le) h
+lines_over n l r le h = next_as n _ _ r (λ round. lines_past round l n le) h
 
 -- hosts
 pub taking_next : (n : Net) (i left times : ℕ) (h : Host) → i < length n.hosts → h ≡ get_or n.hosts i h → times ≡ suc left → gives n h ≡ true
@@ -298,7 +298,7 @@ taking_next n i left times h lt is more given =
 
 pub taking_passed : (n : Net) (i times : ℕ) (h : Host) → i < length n.hosts → h ≡ get_or n.hosts i h → ((k : ℕ) → times ≡ suc k → gives n h ≡ false) → (round : ℕ)
     → takings_from from_subnet round (drop (i + 1) n.hosts) 16 n ≡ takings_from from_subnet round (drop i n.hosts) times n
-taking_passed n i times h lt is none round = sym (passes from_subnet round i times n.hosts h n lt is none)
+taking_passed n i times h lt is none round = sym (passes from_subnet round i times _ h n lt is none)
 
 pub hosts_over : (n : Net) (i times : ℕ) → length n.hosts ≤ i → IsNext n (λ round. takings_from from_subnet round (drop i n.hosts) times n) None
 hosts_over n i times le = λ round. ap (λ (hosts : List Host). takings_from from_subnet round hosts times n) (drop_of_length-le n.hosts le)

@@ -31,7 +31,7 @@ put_has {V} P m n f o is new old g = subst (λ (x : Option V). IfSome x (λ v. P
   by false e = old g
 
 changed_has : {V : Type 0} (P : Flow × V → Type 0) (change : V → V) → ((f : Flow) (v : V) → P (f, v) → P (f, change v)) → (m n : FinMap flow_cmp V) (f : Flow) → ((g : Flow) → get n g ≡ (if same_flow g f then option_map change (get m f) else get m g)) → TableHas P m → TableHas P n
-changed_has {V} P change keeps m n f is old = put_has P m n f (option_map change (get m f)) is (by (get m f) (old f)) old where
+changed_has {V} P change keeps m n f is old = put_has P m n f _ is (by (get m f) (old f)) old where
   by : (o : Option V) → IfSome o (λ v. P (f, v)) → IfSome (option_map change o) (λ v. P (f, v))
   by None h = tt
   by (Some v) h = keeps f v h
@@ -42,10 +42,10 @@ unfolding modulus
 short_number n below = omega (arith, below)
 
 pub number_short : (o : Option Standing) → IsShort (number_in o)
-number_short o = short_number (number_in o) (number_begun o)
+number_short o = short_number _ (number_begun o)
 
 pub begun_has : (m : Sources) (f : Flow) → IsFlowNamed f → TableHas IsSourceTold m → TableHas IsSourceTold (begun m f)
-begun_has m f named old = put_has IsSourceTold m (begun m f) f (Some (standing.Outstanding (number_in (get m f)))) (λ g. get_begun m f g) (record { flow = named; number = number_short (get m f) }) old
+begun_has m f named old = put_has IsSourceTold m _ f _ (λ g. get_begun m f g) (record { flow = named; number = number_short _ }) old
 
 answered_same : (n : ℕ) (s : Standing) → last_of (answered_in n s) ≡ last_of s
 answered_same n (standing.Idle l) = refl
@@ -69,21 +69,21 @@ same_last : (f : Flow) (s t : Standing) → last_of t ≡ last_of s → IsSource
 same_last f s t same is = record { flow = is.flow; number = subst IsShort (sym same) is.number }
 
 pub answered_has : (m : Sources) (f : Flow) (n : ℕ) → TableHas IsSourceTold m → TableHas IsSourceTold (flow_answered m f n)
-answered_has m f n old = changed_has IsSourceTold (answered_in n) (λ g s. same_last g s (answered_in n s) (answered_same n s)) m (flow_answered m f n) f (λ g. get_answered m f g n) old
+answered_has m f n old = changed_has IsSourceTold _ (λ g s. same_last g s (answered_in n s) (answered_same n s)) m _ f (λ g. get_answered m f g n) old
 
 pub given_up_has : (m : Sources) (f : Flow) → TableHas IsSourceTold m → TableHas IsSourceTold (given_up m f)
-given_up_has m f old = changed_has IsSourceTold given_up_in (λ g s. same_last g s (given_up_in s) (given_up_same s)) m (given_up m f) f (λ g. get_given_up m f g) old
+given_up_has m f old = changed_has IsSourceTold given_up_in (λ g s. same_last g s (given_up_in s) (given_up_same s)) m _ f (λ g. get_given_up m f g) old
 
 pub handed_has : (m : Sources) (f : Flow) → TableHas IsSourceTold m → TableHas IsSourceTold (handed m f)
-handed_has m f old = changed_has IsSourceTold handed_in (λ g s. same_last g s (handed_in s) (handed_same s)) m (handed m f) f (λ g. get_handed m f g) old
+handed_has m f old = changed_has IsSourceTold handed_in (λ g s. same_last g s (handed_in s) (handed_same s)) m _ f (λ g. get_handed m f g) old
 
 pub noted_has : (m : Destinations) (f : Flow) (n : ℕ) (new : Fate) → IsFlowNamed f → IsShort n → TableHas IsKeptTold m → TableHas IsKeptTold (noted m f n new)
 noted_has m f n new named short old =
     let entry : Noted = record { number = n; fate = new } in
-    put_has IsKeptTold m (noted m f n new) f (Some entry) (λ g. get_put m f g entry) (record { flow = named; number = short }) old
+    put_has IsKeptTold m _ f _ (λ g. get_put m f g entry) (record { flow = named; number = short }) old
 
 pub ended_has : (m : Destinations) (f : Flow) (n : ℕ) (new : Fate) → TableHas IsKeptTold m → TableHas IsKeptTold (ended m f n new)
-ended_has m f n new old = changed_has IsKeptTold (ended_in n new) keeps m (ended m f n new) f (λ g. get_ended m f g n new) old where
+ended_has m f n new old = changed_has IsKeptTold _ keeps m _ f (λ g. get_ended m f g n new) old where
   keeps : (g : Flow) (v : Noted) → IsKeptTold (g, v) → IsKeptTold (g, ended_in n new v)
   keeps g v is = by (v.number == n) where
     by : (b : Bool) → IsKeptTold (g, (if b then record v { fate = new } else v))
@@ -117,7 +117,7 @@ all_above f (e ∷ es) h = let parts = and_parts (is_lt (flow_cmp f e.0)) (below
 -- what is found after an entry is found also with it
 later_found : {V : Type 0} (P : Flow × V → Type 0) (e : Flow × V) (es : List (Flow × V)) → ((f : Flow) (v : V) → find flow_cmp f (e ∷ es) ≡ Some v → P (f, v)) → (f : Flow) (v : V) → find flow_cmp f es ≡ Some v → IsAbove e.0 (f, v) → P (f, v)
 later_found {V} P e es found f v at above =
-    let other : eq_by_cmp flow_cmp f e.0 ≡ false = ap is_eq (flows_total.antisymm f e.0) ∙ above_is_other (flow_cmp e.0 f) above in
+    let other : eq_by_cmp flow_cmp f e.0 ≡ false = ap is_eq (flows_total.antisymm f e.0) ∙ above_is_other _ above in
     found f v (ap (λ (b : Bool). cond b (Some e.1) (find flow_cmp f es)) other ∙ at)
 
 -- what is found is all that is there
@@ -131,4 +131,4 @@ all_found {V} P (e ∷ es) sorted found =
     All-cons P e es (found e.0 e.1 (ap (λ (b : Bool). cond b (Some e.1) (find flow_cmp e.0 es)) ((eq_by_cmp_equiv flows_total).refl e.0))) (λ k d low. later k d low (above k d low))
 
 pub table_all : {V : Type 0} (P : Flow × V → Type 0) (m : FinMap flow_cmp V) → TableHas P m → All P (entries m)
-table_all {V} P m has = all_found P (entries m) (known (is_sorted flow_cmp (entries m)) (entries_sorted m)) (λ f v at. subst (λ (o : Option V). IfSome o (λ w. P (f, w))) (get-entries m f ∙ at) (has f))
+table_all {V} P m has = all_found P _ (known _ (entries_sorted m)) (λ f v at. subst (λ (o : Option V). IfSome o (λ w. P (f, w))) (get-entries m f ∙ at) (has f))

@@ -1,9 +1,9 @@
 -- What is traced of a calm of a subnet says all of it: a still round leaves the subnet as it was, and so do all rounds
 -- after it.
-use Rattle.subnet_trace.proofs.Common.{length-map, false≢true, eqb-true, nat_tests, range_with_len, flat_map, Host, Crossing, Direction, NetEvent, Shown, Happens, RawEvent, Kept, is_imp, Net, imp_at, opening_subnet, hosts_from, ends_of, IsOneNetwork, IsTold, SameTexts, IsReached, subnet_calls, Ends, subnet_inside, member, Spot, kept_of, sources_of, AllParts}
+use Rattle.subnet_trace.proofs.Common.{length-map, false≢true, eqb-true, nat_tests, range_with_len, flat_map, Host, Crossing, Direction, NetEvent, Shown, Happens, RawEvent, Kept, is_imp, Net, imp_at, ends_of, IsOneNetwork, IsTold, SameTexts, IsReached, subnet_calls, Ends, subnet_inside, Spot, kept_of, sources_of, AllParts}
 use Rattle.std.proofs.Common.{◌≡◌, ◌⊎◌, inl, inr, ◌==◌, ◌<◌, ◌≤◌, ◌+◌, ℕ, zero, suc, nat_lt, Bool, false, List, [], ◌∷◌, ◌++◌, if◌then◌else◌, filter, length, map, Option, None, is_some, refl, sym, ap, ◌∙◌, arith, true, slice_index_or}
 use Rattle.subnet_trace.specs.Parts.{Imp, Line, all_parts, is_part, part_name, parts_members, all_flows, flows_at, parts_of_net, Part, part_text}
-use Rattle.subnet_trace.specs.Elements.{all_refreshing, all_turning, calling, can_resend, carrying, delivering, from_subnet, is_heard, is_working, live_frames, numbers_from, refreshing, round_from_line, round_of, round_of_hosts, sending, telling, turning, dropping}
+use Rattle.subnet_trace.specs.Elements.{all_refreshing, all_turning, calling, can_resend, carrying, delivering, from_subnet, is_heard, is_working, live_frames, numbers_from, round_from_line, round_of, round_of_hosts, sending, telling, turning, dropping}
 use Rattle.trace.specs.Elements.{Course, no_course, then_course}
 use Rattle.trace.proofs.lemmas.{AllRoundsGo, Goes, Traced, first_same, member_once, rest_same, AreRounds, IsIn, all_takings_in, says_all, then_in}
 use Rattle.trace.specs.Traces.{IsStill, TellsEvent, SaysAll}
@@ -28,7 +28,7 @@ call_in round e n = (refl, tt)
 refresh_in : (round : ℕ) (numbers : List ℕ) (n : Net) → IsIn round (all_refreshing round numbers n)
 refresh_in round [] n = tt
 refresh_in round (i ∷ numbers) n =
-    then_in round (refreshing round i n) (all_refreshing round numbers)
+    then_in round _ (all_refreshing round numbers)
     (then_in round (telling round i n) (sending round i)
     (if_in round (is_working n i) (calling round (net.Route i) n) n (call_in round (net.Route i) n))
     (λ m. if_in round (can_resend m i) (calling round (net.Resend i) m) m (call_in round (net.Resend i) m)))
@@ -48,7 +48,7 @@ carry_in round l d (suc frames) n =
 turns_in : (round : ℕ) (lines : List ℕ) (n : Net) → IsIn round (all_turning round lines n)
 turns_in round [] n = tt
 turns_in round (l ∷ lines) n =
-    then_in round (then_course (turning round l way.Forward n) (turning round l way.Back)) (all_turning round lines)
+    then_in round _ (all_turning round lines)
     (then_in round (turning round l way.Forward n) (turning round l way.Back)
     (carry_in round l way.Forward (live_frames n l way.Forward) n)
     (λ m. carry_in round l way.Back (live_frames m l way.Back) m))
@@ -59,7 +59,7 @@ round_in round n =
     then_in round (all_refreshing round (numbers_from 0 (length n.imps)) n) (round_from_line round 0)
     (refresh_in round (numbers_from 0 (length n.imps)) n)
     (λ m. then_in round (all_turning round (numbers_from 0 (length m.lines)) m) (round_of_hosts round)
-    (turns_in round (numbers_from 0 (length m.lines)) m) (λ o. all_takings_in from_subnet round o.hosts o))
+    (turns_in round _ m) (λ o. all_takings_in from_subnet round o.hosts o))
 
 -- ---- the same members are the same texts
 
@@ -114,17 +114,17 @@ site_within (site ∷ sites) (suc i) some = let less : i < length sites = site_w
 
 listed : (n : Net) → length n.imps ≡ length n.sites → (p : Part) → is_part n p ≡ true → IsAmong p (all_parts n)
 listed n places (Imp i) is =
-    let less : i < length n.sites = site_within n.sites i is in
-    among_front (Imp i) (map (λ i. Imp i) (filter (is_imp n) (range_with_len 0 (length n.imps))))
-    (map (λ l. Line l) (range_with_len 0 (length n.lines)))
-    (among_made (λ i. Imp i) i (filter (is_imp n) (range_with_len 0 (length n.imps)))
-    (among_kept (is_imp n) i (range_with_len 0 (length n.imps)) is
+    let less : i < length n.sites = site_within _ i is in
+    among_front _ _
+    _
+    (among_made _ i _
+    (among_kept _ i _ is
     (in_range 0 (length n.imps) i (omega arith) (omega (arith, less, places)))))
 listed n places (Line l) is =
     let less : l < length n.lines = grind (arith, nat_tests, is) in
-    among_back (Line l) (map (λ i. Imp i) (filter (is_imp n) (range_with_len 0 (length n.imps))))
-    (map (λ l. Line l) (range_with_len 0 (length n.lines)))
-    (among_made (λ l. Line l) l (range_with_len 0 (length n.lines))
+    among_back _ _
+    _
+    (among_made _ l (range_with_len 0 (length n.lines))
     (in_range 0 (length n.lines) l (omega arith) (omega (arith, less))))
 
 -- two states of one network have the same parts
@@ -166,10 +166,10 @@ same_flows n m p q same flows i is =
     ap (λ (sites : List (Option ℕ)). filter (λ k. is_some (slice_index_or sites k None))
     (range_with_len 0 (length m.imps))) (sym same.sites)
     ∙ ap (λ (count : ℕ). filter (is_imp n) (range_with_len 0 count)) long in
-    let less : i < length n.sites = site_within n.sites i is in
-    same_lists_of n m (filter (is_imp n) (range_with_len 0 (length n.imps)))
+    let less : i < length n.sites = site_within _ i is in
+    same_lists_of n m _
     (sym flows ∙ ap (flat_map (flows_at m)) numbers) i
-    (among_kept (is_imp n) i (range_with_len 0 (length n.imps)) is
+    (among_kept _ i _ is
     (in_range 0 (length n.imps) i (omega arith) (omega (arith, less, p.places))))
 
 same_texts : (n m : Net) → IsTold n → IsTold m → IsOneNetwork n m → parts_of_net m ≡ parts_of_net n → SameTexts n m
@@ -180,8 +180,8 @@ same_texts n m p q same all =
     let flows : all_flows m ≡ all_flows n = ap (λ (x : AllParts). x.flows) all in
     record {
       parts = λ part is. member_once (part_name part) (part_text n part) (part_text m part)
-          (same_made (λ x. member (part_name x) (part_text n x)) (λ x. member (part_name x) (part_text m x))
-          (all_parts n) here part (listed n p.places part is));
+          (same_made _ _
+          _ here part (listed n p.places part is));
       sources = λ i is. ap (map flow.told) (same_flows n m p q same flows i is).0;
       kept = λ i is. ap (map flow.told) (same_flows n m p q same flows i is).1;
     }
@@ -202,9 +202,9 @@ stays : (o : Net) (old new : Kept) → Holds o old → Holds o new → IsStill s
 stays o old new p q still =
     let one : IsTold old.net = told old.net (p.working.whole p.runs) p.known in
     let other : IsTold new.net = told new.net (q.working.whole q.runs) q.known in
-    let network : IsOneNetwork old.net new.net = one_opening o old.net new.net p.known.network q.known.network in
+    let network : IsOneNetwork old.net new.net = one_opening o _ _ p.known.network q.known.network in
     let is : new.net ≡ record old.net { log = new.net.log } =
-    whole old.net new.net one other network (same_texts old.net new.net one other network still.parts) in
+    whole _ _ one other network (same_texts _ _ one other network still.parts) in
     let left : new.net ≡ old.net = is ∙ ap (λ (log : List Crossing). record old.net { log = log }) still.log in
     let stopped : new.stopped ≡ old.stopped = q.runs ∙ sym p.runs in
     λ i. record { net = left i; stopped = stopped i }
@@ -232,14 +232,14 @@ pub says : (o : Net) (old new other : Kept) (spot : Spot) (e : RawEvent) (lines 
     → SaysAll subnet_calls subnet_inside spot old new lines other shown
 says o old new other spot e lines shown holds t k =
     let one : IsTold old.net = told old.net (holds.working.whole holds.runs) holds.known in
-    says_all (reached o old.net.hosts (length old.net.lines)) subnet_inside round_of
-    (subnet_rounds o old.net.hosts (length old.net.lines)) spot old new other e lines shown
-    (held_by old.net one.there, holds) t k
+    says_all (reached o _ _) subnet_inside round_of
+    (subnet_rounds o _ _) spot old new other e lines shown
+    (held_by _ one.there, holds) t k
 
 pub says_reached : (sites : List (Option ℕ)) (ends : List Ends) (old new other : Kept) (spot : Spot) (e : RawEvent)
     (lines : List (List ℕ)) (shown : List Shown) → IsReached sites ends old
     → TellsEvent subnet_calls subnet_inside old (spot, e) new lines
     → Happens subnet_calls old e other shown → SaysAll subnet_calls subnet_inside spot old new lines other shown
 says_reached sites ends old new other spot e lines shown is t k =
-    says (opening_subnet (hosts_from 0 sites) sites ends) old new other spot e lines shown
+    says _ old new other spot e lines shown
     (reached_holds sites ends old is) t k

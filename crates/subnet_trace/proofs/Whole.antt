@@ -7,7 +7,7 @@ use Rattle.subnet_trace.specs.Texts.{finite_from, frame_text, heard_text, host_o
 use Rattle.subnet_trace.specs.Told.{IsFrameTold, IsHeardTold, IsHostTold, IsKeptTold, IsLineTold, IsOneNetwork, IsPortTold, IsSlotTold, IsSourceTold, IsTold, IsToldAt, SameTexts, ends_of, IsImpTold}
 use Rattle.std.proofs.lemmas.List.{get_or_default, same_lists}
 use Rattle.std.specs.FinMap as fin
-use Rattle.subnet_trace.proofs.Objects.{finite_closed, frame_spelled, heard_spelled, host_spelled, not_null, packets_spelled, port_spelled, ports_closed, slot_spelled}
+use Rattle.subnet_trace.proofs.Objects.{distances_spelled, finite_closed, frame_spelled, heard_spelled, host_spelled, not_null, packets_spelled, port_spelled, ports_closed, slot_spelled}
 use Rattle.subnet_trace.proofs.Spelling.{kept_once, source_once}
 
 -- ---- an IMP
@@ -73,8 +73,10 @@ state_once i s t p q e =
     let sources : s.sources ≡ t.sources = fin.same_entries_map s.sources t.sources (sources_once s t (fin.entries s.sources) (fin.entries t.sources) p.sources q.sources e.sources) in
     let kept : s.kept ≡ t.kept = fin.same_entries_map s.kept t.kept (all_kept_once (fin.entries s.kept) (fin.entries t.kept) p.kept q.kept e.kept) in
     let own : s.routes.own ≡ t.routes.own = p.own ∙ sym q.own in
+    let told : vector_of s.routes ≡ vector_of t.routes = distances_spelled.once _ _ (vector-is s.routes) (vector-is t.routes) (member_once (codes "distances") _ _ (first_same (rest_same five))) in
+    let claims : s.routes.claims ≡ t.routes.claims = claims-shown s.routes t.routes told in
     let spent : s.spent ≡ t.spent = p.live ∙ sym q.live in
-    λ j. record { spent = spent j; hosts = hosts j; ports = ports j; routes = record { own = own j; heard = heard j }; store = store j; slots = slots j; sources = sources j; kept = kept j }
+    λ j. record { spent = spent j; hosts = hosts j; ports = ports j; routes = record { own = own j; heard = heard j; claims = claims j }; store = store j; slots = slots j; sources = sources j; kept = kept j }
 
 imp_once : (i : ℕ) (o r : Option State) → IsToldAt i o → IsToldAt i r → SameImp o r → o ≡ r
 imp_once i None None p q e = refl
@@ -113,8 +115,8 @@ lines_once [] [] p q ends texts = refl
 lines_once [] (w ∷ ws) p q ends texts = absurd (cc)
 lines_once (v ∷ vs) [] p q ends texts = absurd (cc)
 lines_once (v ∷ vs) (w ∷ ws) p q ends texts =
-    ap₂ (λ (x : Wire) (xs : List Wire). x ∷ xs) (line_once v w (All-head IsLineTold v vs p) (All-head IsLineTold w ws q) (first_same ends) (texts 0 (first_place (length vs))))
-    (lines_once vs ws (All-tail IsLineTold v vs p) (All-tail IsLineTold w ws q) (rest_same ends) (λ l there. texts (suc l) (next_place l (length vs) there)))
+    ap₂ (λ (x : Wire) (xs : List Wire). x ∷ xs) (line_once v w (All-head IsLineTold v vs p) (All-head IsLineTold w ws q) (first_same ends) (texts 0 (first_place _)))
+    (lines_once vs ws (All-tail IsLineTold v vs p) (All-tail IsLineTold w ws q) (rest_same ends) (λ l there. texts (suc l) (next_place l _ there)))
 
 -- ---- a subnet
 
@@ -123,7 +125,7 @@ imp_same : (n m : Net) → IsTold n → IsTold m → n.sites ≡ m.sites → ((i
 imp_same n m p q sites texts i = by (site_at n i) refl where
   by : (o : Option ℕ) → site_at n i ≡ o → imp_at n.imps i ≡ imp_at m.imps i
   by None none = p.there i none ∙ sym (q.there i (sym (ap (λ (ss : List (Option ℕ)). slice_index_or ss i None) sites) ∙ none))
-  by (Some count) some = imp_once i (imp_at n.imps i) (imp_at m.imps i) (p.imps i) (q.imps i) (texts i (ap is_some some))
+  by (Some count) some = imp_once i _ _ (p.imps i) (q.imps i) (texts i (ap is_some some))
 
 same_imps : (n m : Net) → IsTold n → IsTold m → n.sites ≡ m.sites → ((i : ℕ) → is_imp n i ≡ true → SameImp (imp_at n.imps i) (imp_at m.imps i)) → n.imps ≡ m.imps
 same_imps n m p q sites texts =
@@ -133,5 +135,5 @@ same_imps n m p q sites texts =
 pub whole : (n m : Net) → IsTold n → IsTold m → IsOneNetwork n m → SameTexts n m → m ≡ record n { log = m.log }
 whole n m p q same texts =
     let imps : n.imps ≡ m.imps = same_imps n m p q same.sites (λ i there. record { text = texts.parts (Imp i) there; sources = texts.sources i there; kept = texts.kept i there }) in
-    let lines : n.lines ≡ m.lines = lines_once n.lines m.lines p.lines q.lines same.lines (λ l there. texts.parts (Line l) there) in
+    let lines : n.lines ≡ m.lines = lines_once _ _ p.lines q.lines same.lines (λ l there. texts.parts (Line l) there) in
     λ j. record { hosts = sym same.hosts j; sites = sym same.sites j; imps = sym imps j; lines = sym lines j; log = m.log }

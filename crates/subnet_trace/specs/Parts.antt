@@ -88,6 +88,7 @@ scope_of n (event.Net (net.Drop l d k)) = scope.Line l
 scope_of n (event.Net (net.Garble l d k)) = scope.Line l
 scope_of n (event.Net (net.Resend i)) = scope.ImpAndLines i
 scope_of n (event.Net (net.Route i)) = scope.ImpAndLines i
+scope_of n (event.Net (net.Claim i)) = scope.ImpAndLines i
 scope_of n (event.Net (net.EndDown i l)) = scope.ImpAndLines i
 scope_of n (event.Net (net.EndUp i l)) = scope.ImpAndLines i
 scope_of n (event.Net (net.ImpDown i)) = scope.Imp i

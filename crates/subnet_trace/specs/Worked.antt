@@ -52,7 +52,7 @@ with_dead f = record (opening_node 1 1 0) { hosts = record { up = true; answers 
 
 -- IMP 1 heard of IMP 3 on port 0, and of IMP 2 on port 1, which is as near to IMP 3
 abbrev pub heard_on_two : Table
-heard_on_two = record { own = 1; heard = Some (1 ∷ 63 ∷ 0 ∷ replicate 60 63) ∷ Some (1 ∷ 0 ∷ 0 ∷ replicate 60 63) ∷ [] }
+heard_on_two = record { own = 1; heard = Some (1 ∷ 63 ∷ 0 ∷ replicate 60 63) ∷ Some (1 ∷ 0 ∷ 0 ∷ replicate 60 63) ∷ []; claims = false }
 
 -- the least number of 65 digits
 abbrev pub long : ℕ

@@ -67,7 +67,9 @@ fn scope_of_net(subnet: &Subnet, event: &NetEvent) -> Scope
         } => scope_of_delivery(subnet, line, direction),
         NetEvent::Drop { line, .. } | NetEvent::Garble { line, .. } => Scope::Line(line),
         NetEvent::ImpDown(imp) | NetEvent::ImpUp(imp) => Scope::Imp(imp.number()),
-        NetEvent::Resend(imp) | NetEvent::Route(imp) => Scope::ImpAndLines(imp.number()),
+        NetEvent::Resend(imp) | NetEvent::Route(imp) | NetEvent::Claim(imp) => Scope::ImpAndLines(
+            imp.number(),
+        ),
         NetEvent::EndDown { imp, .. } | NetEvent::EndUp { imp, .. } => {
             Scope::ImpAndLines(imp.number())
         }

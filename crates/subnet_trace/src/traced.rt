@@ -69,8 +69,8 @@ impl Carrier for TracedSubnet {
         self.subnet.quiet_round()
     }
 
-    fn rests(&self) -> bool {
-        self.subnet.rests()
+    fn rests_beside(&self, hosts: &[HostAddr]) -> bool {
+        self.subnet.rests_beside(hosts)
     }
 
     fn refuses(&self, message: &HostMessage) -> bool {

@@ -28,7 +28,7 @@ impl Item for Heard<'_> {
     }
 }
 
-/// What an IMP concludes of routes: its own distances, and the port that packets to each IMP take.
+/// What an IMP concludes of routes: the distances that it announces, and the port that packets to each IMP take.
 #[derive(Drop)]
 struct Concluded<'a>(&'a RouteTable);
 
@@ -50,6 +50,7 @@ impl Item for Concluded<'_> {
 pub(crate) struct Ways {
     own: u8,
     heard: Vec<Option<Vector>>,
+    claims: bool,
     heard_list: Vec<u8>,
     concluded: Vec<u8>,
 }
@@ -60,9 +61,9 @@ impl Model for Ways {
 
     ghost Value = { Table };
 
-    ghost view = { λ w. record { own = w.own; heard = w.heard.items } };
+    ghost view = { λ w. record { own = w.own; heard = w.heard.items; claims = w.claims } };
 
-    ghost invariant = { λ w. AreWaysTexts (record { own = w.own; heard = w.heard.items }) w.heard_list.items w.concluded.items };
+    ghost invariant = { λ w. AreWaysTexts (record { own = w.own; heard = w.heard.items; claims = w.claims }) w.heard_list.items w.concluded.items };
 }
 
 /// Returns a copy of what was heard on a port.
@@ -122,6 +123,7 @@ impl Ways {
         Ok(Ways {
             own: routes.own(),
             heard: copies_of(alloc, routes.heard())?,
+            claims: routes.claims(),
             heard_list: text_of(alloc, &Heard(routes))?,
             concluded: text_of(alloc, &Concluded(routes))?,
         })
@@ -131,7 +133,9 @@ impl Ways {
     fn is_of(&self, routes: &RouteTable) -> bool
         ensures { result ≡ true → self.now ≡ routes.now }
     {
-        self.own == routes.own() && are_same(&self.heard, routes.heard())
+        self.own == routes.own()
+            && self.claims == routes.claims()
+            && are_same(&self.heard, routes.heard())
     }
 
     /// Returns the text of what the neighbours announced.

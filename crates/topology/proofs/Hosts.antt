@@ -1,6 +1,6 @@
 -- The hosts of a topology are those that its IMPs have.
 use Rattle.topology.proofs.Common.{div-add-mod, mod_below, nat_tests, list_all, Host, is_host, most_imps, same_host, ImpHosts}
-use Rattle.std.proofs.Common.{◌≡◌, ◌≢◌, ℕ, zero, suc, ◌<◌, ◌≤◌, ◌+◌, ◌*◌, ◌-◌, ◌/◌, ◌%◌, ◌==◌, ◌&&◌, ◌||◌, nat_lt, nat_le, Bool, true, false, List, [], ◌∷◌, ◌++◌, length, filter, ap, refl, sym, ◌∙◌, subst, arith, lit<, inl, inr, ◌⊎◌, eqb-true, Result, Ok, Err, IfErr}
+use Rattle.std.proofs.Common.{◌≡◌, ◌≢◌, ℕ, zero, suc, ◌<◌, ◌≤◌, ◌+◌, ◌*◌, ◌-◌, ◌/◌, ◌%◌, ◌==◌, ◌&&◌, nat_lt, nat_le, Bool, true, false, List, [], ◌∷◌, ◌++◌, length, filter, ap, refl, sym, ◌∙◌, subst, arith, lit<, inl, inr, ◌⊎◌, eqb-true, Result, Ok, Err, IfErr}
 use Rattle.std.proofs.lemmas.Bool.{false≢true, and_parts, or_right, or_cases, or_left}
 use Rattle.std.proofs.lemmas.List.Elements.{filter-append}
 use Rattle.std.proofs.lemmas.List.Folds.{list_any-append}

@@ -2,8 +2,7 @@ pub mod Common
 pub mod Described
 mod Documents
 mod Hosts
-mod OneKind
-mod Strangers
+pub mod Picked
 pub mod Order
 pub mod Sites
 mod Ports

@@ -2,7 +2,6 @@
 use Rattle.std.specs.Prelude.{ℕ, List, [], ◌∷◌, Option, codes, option_map, pos, false, true}
 use Rattle.interface.specs.Host.{Host}
 use Rattle.toml.specs.Data.{Data, Items, no_items, item, no_members, member, integer, array, table, string, boolean}
-use Rattle.topology.specs.Mixed.{MixedFields, mixed_of}
 use Rattle.topology.specs.Topology.{TopologyFields, topology_of}
 use Rattle.topology.specs.declared.network.CarrierKind.TheVariants as kind
 use Rattle.topology.specs.declared.network.ImpHosts.{ImpHosts}
@@ -69,15 +68,13 @@ abbrev pub two : Data → Data → Data
 two imp other = document (item imp (item other no_items)) no_items
 
 abbrev pub strangers_in : Data → Option (List Host)
-strangers_in d = option_map (λ (m : MixedFields). m.strangers) (mixed_of d)
+strangers_in d = option_map (λ (t : TopologyFields). t.strangers) (topology_of d)
 
--- what documents with strangers describe: these hosts of an IMP, and a subnet of IMP 2, of whose two hosts the second is one
+-- what such documents describe: these hosts of an IMP, and a subnet of IMP 2, which has two hosts, with these strangers
 abbrev pub strangers_of : ℕ → List ℕ → List Host
 strangers_of imp [] = []
 strangers_of imp (n ∷ numbers) = record { imp = imp; host = n } ∷ strangers_of imp numbers
 
-abbrev pub lone_imp : TopologyFields
-lone_imp = record { carrier = kind.Subnet; raw = false; imps = imp_hosts 2 2 ∷ []; lines = [] }
-
-abbrev pub one_stranger : MixedFields
-one_stranger = record { network = lone_imp; strangers = strangers_of 2 (1 ∷ []) }
+abbrev pub lone_imp : List Host → TopologyFields
+lone_imp strangers =
+    record { carrier = kind.Subnet; raw = false; imps = imp_hosts 2 2 ∷ []; lines = []; strangers = strangers }

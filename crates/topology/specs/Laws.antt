@@ -15,6 +15,7 @@ pub record WorkedSites : Type 0 where
         imps = record { imp = 1; hosts = 1 } ∷ record { imp = 3; hosts = 2 } ∷
             [];
         lines = [];
+        strangers = [];
       }))
       ≡ None ∷ Some 1 ∷ None ∷ Some 2 ∷ None ∷ []
   pub hosts :

@@ -1,6 +1,6 @@
 -- Topologies: a network's IMPs, hosts and lines, and the documents that describe them.
 use Rattle.std.specs.Prelude.{◌≡◌, ℕ, zero, suc, ◌+◌, ◌*◌, ◌/◌, ◌%◌, ◌<◌, ◌≤◌, ◌==◌, ◌&&◌, ◌||◌, nat_le, nat_lt, not}
-use Rattle.std.specs.Prelude.{Bool, true, false, List, [], ◌∷◌, ◌++◌, All, length, map, codes, Option, Some, None}
+use Rattle.std.specs.Prelude.{Bool, true, false, List, [], ◌∷◌, ◌++◌, All, filter, length, map, codes, Option, Some, None}
 use Rattle.std.specs.Prelude.{option_and_then, option_map, IfSome, slice_index_or, is_some, if◌then◌else◌, ℤ, pos}
 use Rattle.std.specs.Prelude.{negsuc, count_by, nat_eq}
 use Rattle.std.specs.Cmp.Lexicographic.{pointwise}
@@ -14,12 +14,14 @@ use Rattle.topology.specs.declared.network.CarrierKind.TheVariants as kind
 use Rattle.topology.specs.declared.network.ImpHosts.{ImpHosts}
 use Rattle.topology.specs.declared.network.LineEnds.{LineEnds}
 
--- a topology: what carries the messages, whether there are no host programs, the IMPs by rising number, and the lines in order
+-- a topology: what carries the messages, whether there are no host programs, the IMPs by rising number, the lines in order, and those of its hosts that
+-- are strangers, which run no program
 pub record TopologyFields : Type 0 where
   pub carrier : CarrierKind
   pub raw : Bool
   pub imps : List ImpHosts
   pub lines : List LineEnds
+  pub strangers : List Host
 
 -- ---- the limits
 
@@ -96,11 +98,36 @@ IsRising [] = Unit {0}
 IsRising (i ∷ []) = Unit {0}
 IsRising (i ∷ j ∷ imps) = (i.imp < j.imp) × IsRising (j ∷ imps)
 
--- the rules that a topology keeps
+-- ---- hosts
+
+-- whether an IMP has a host of this number
+abbrev pub has_host : List ImpHosts → ℕ → ℕ → Bool
+has_host imps imp host = list_any (λ i. i.imp == imp && nat_lt host i.hosts) imps
+
+abbrev pub host_if : Bool → Host → List Host
+host_if true h = h ∷ []
+host_if false h = []
+
+-- the hosts at places below this one: four places for each IMP, from IMP 1 on
+unfoldable pub hosts_below : List ImpHosts → ℕ → List Host
+hosts_below imps zero = []
+hosts_below imps (suc place) = hosts_below imps place ++ host_if (has_host imps (place / 4 + 1) (place % 4)) (record { imp = place / 4 + 1; host = place % 4 })
+
+-- all hosts of a topology, in order: four places for each IMP that there can be
+abbrev pub hosts_of : TopologyFields → List Host
+hosts_of t = hosts_below t.imps (most_imps * most_hosts)
+
+-- strangers are some of these hosts, in the order of these
+abbrev pub ArePicked : List Host → List Host → Type 0
+ArePicked hosts strangers = (p : Host → Bool) × (strangers ≡ filter p hosts)
+
+-- the rules that a topology keeps. Where there are no host programs there are no strangers
 pub record IsTopology (n : TopologyFields) : Type 0 where
   pub imps : are_imps n.imps ≡ true
   pub rising : IsRising n.imps
   pub lines : are_lines n.imps n.lines ≡ true
+  pub strangers : ArePicked (hosts_of n) n.strangers
+  pub programs : n.raw ≡ true → n.strangers ≡ []
 
 -- ---- documents
 
@@ -133,9 +160,12 @@ abbrev pub octet_of : ℤ → Option ℕ
 octet_of (pos n) = if nat_lt n 256 then Some n else None
 octet_of (negsuc n) = None
 
+abbrev pub number_of : Data → Option ℕ
+number_of d = option_and_then octet_of (as_integer d)
+
 -- the number from 0 to 255 at a key
 abbrev pub number_at : List ℕ → Data → Option ℕ
-number_at key d = option_and_then octet_of (option_and_then as_integer (get key d))
+number_at key d = option_and_then number_of (get key d)
 
 abbrev pub imp_from : Option ℕ → Option ℕ → Option ImpHosts
 imp_from None hosts = None
@@ -147,9 +177,11 @@ line_from None b = None
 line_from (Some a) None = None
 line_from (Some a) (Some b) = Some (record { a = a; b = b })
 
--- a table with the keys `id` and `hosts` and no other
+-- a table with the keys `id` and `hosts`, and no other but `foreign`
 abbrev pub imp_of : Data → Option ImpHosts
-imp_of d = if size d == 2 then imp_from (number_at (codes "id") d) (number_at (codes "hosts") d) else None
+imp_of d =
+    if size d == 2 + one_if (has (codes "foreign") d)
+    then imp_from (number_at (codes "id") d) (number_at (codes "hosts") d) else None
 
 -- a table with the keys `a` and `b` and no other
 abbrev pub line_of : Data → Option LineEnds
@@ -199,11 +231,11 @@ abbrev pub topology_if : Bool → TopologyFields → Option TopologyFields
 topology_if true n = Some n
 topology_if false n = None
 
--- the topology of these IMPs and lines, where they keep the rules
+-- the topology of these IMPs and lines without strangers, where they keep the rules
 abbrev pub topology_by : CarrierKind → Bool → List ImpHosts → List LineEnds → Option TopologyFields
 topology_by carrier raw imps lines =
     topology_if (all_placed imps && (are_imps (by_number imps) && are_lines (by_number imps) lines))
-    (record { carrier = carrier; raw = raw; imps = by_number imps; lines = lines })
+    (record { carrier = carrier; raw = raw; imps = by_number imps; lines = lines; strangers = [] })
 
 abbrev pub topology_from : Option CarrierKind → Option Bool → Option (List ImpHosts) → Option (List LineEnds) → Option TopologyFields
 topology_from None raw imps lines = None
@@ -212,12 +244,94 @@ topology_from (Some carrier) (Some raw) None lines = None
 topology_from (Some carrier) (Some raw) (Some imps) None = None
 topology_from (Some carrier) (Some raw) (Some imps) (Some lines) = topology_by carrier raw imps lines
 
--- the topology that a document's value describes
-abbrev pub topology_of : Data → Option TopologyFields
-topology_of d =
+-- a document's network, whichever strangers its IMPs name
+abbrev pub network_of : Data → Option TopologyFields
+network_of d =
     if size d == known_members d
     then topology_from (carrier_of (get (codes "carrier") d)) (raw_of (get (codes "raw") d)) (imps_of (get (codes "imp") d)) (lines_of (get (codes "line") d))
     else None
+
+-- ---- strangers
+
+-- a number is there, from the least to below the limit
+abbrev pub is_between : ℕ → ℕ → Option ℕ → Bool
+is_between least limit None = false
+is_between least limit (Some n) = nat_le least n && nat_lt n limit
+
+abbrev pub next_of : Option ℕ → ℕ
+next_of None = 0
+next_of (Some n) = n + 1
+
+-- numbers from the least to below the limit, each greater than the one before
+abbrev pub are_rising : ℕ → ℕ → Items → Bool
+are_rising least limit no_items = true
+are_rising least limit (item d items) =
+    is_between least limit (number_of d) && are_rising (next_of (number_of d)) limit items
+
+-- how many of an IMP's hosts may be strangers: none where no host runs a program
+abbrev pub most_foreign : Bool → ℕ → ℕ
+most_foreign raw hosts = if raw then 0 else hosts
+
+-- numbers of hosts that an IMP has, where it has this many: each once, and rising
+abbrev pub are_numbers : Bool → Option ℕ → Option Items → Bool
+are_numbers raw None items = false
+are_numbers raw (Some hosts) None = false
+are_numbers raw (Some hosts) (Some items) = are_rising 0 (most_foreign raw hosts) items
+
+-- an IMP names strangers rightly by its key `foreign`, or none
+abbrev pub are_foreign : Bool → Data → Option Data → Bool
+are_foreign raw imp None = true
+are_foreign raw imp (Some d) = are_numbers raw (number_at (codes "hosts") imp) (as_array d)
+
+-- so does each IMP of a document
+abbrev pub all_foreign : Bool → Items → Bool
+all_foreign raw no_items = true
+all_foreign raw (item imp imps) = are_foreign raw imp (get (codes "foreign") imp) && all_foreign raw imps
+
+abbrev pub is_number : ℕ → Option ℕ → Bool
+is_number n None = false
+is_number n (Some m) = m == n
+
+-- whether an array has a number
+abbrev pub names : ℕ → Items → Bool
+names n no_items = false
+names n (item d items) = is_number n (number_of d) || names n items
+
+abbrev pub items_in : Option Items → Items
+items_in None = no_items
+items_in (Some items) = items
+
+abbrev pub items_at : List ℕ → Data → Items
+items_at key d = items_in (option_and_then as_array (get key d))
+
+-- whether an IMP names a host as a stranger, and whether one of these does
+abbrev pub names_host : Data → Host → Bool
+names_host imp h = is_number h.imp (number_at (codes "id") imp) && names h.host (items_at (codes "foreign") imp)
+
+abbrev pub is_foreign : Items → Host → Bool
+is_foreign no_items h = false
+is_foreign (item imp imps) h = names_host imp h || is_foreign imps h
+
+-- those of a network's hosts that one of these IMPs names, and the one at a place, if it is such a host
+abbrev pub named_in : Items → List ImpHosts → List Host
+named_in imps network = filter (is_foreign imps) (hosts_below network (most_imps * most_hosts))
+
+abbrev pub host_at : ℕ → Host
+host_at place = record { imp = place / 4 + 1; host = place % 4 }
+
+abbrev pub named_at : Items → List ImpHosts → ℕ → List Host
+named_at imps network place =
+    filter (is_foreign imps) (host_if (has_host network (place / 4 + 1) (place % 4)) (host_at place))
+
+-- the topology with the strangers that these IMPs name, where they name them rightly
+abbrev pub naming : Items → TopologyFields → Option TopologyFields
+naming imps t = topology_if (all_foreign t.raw imps) (record t { strangers = named_in imps t.imps })
+
+-- ---- what a document describes
+
+-- the topology that a document's value describes
+abbrev pub topology_of : Data → Option TopologyFields
+topology_of d = option_and_then (naming (items_at (codes "imp") d)) (network_of d)
 
 abbrev pub topology_if_read : Option Members → Option TopologyFields
 topology_if_read None = None
@@ -226,25 +340,6 @@ topology_if_read (Some members) = topology_of (table members)
 -- the topology that a text describes: the text is a TOML document, and the document describes one
 abbrev pub topology_in : List ℕ → Option TopologyFields
 topology_in text = topology_if_read (parse_document text)
-
--- ---- hosts
-
--- whether an IMP has a host of this number
-abbrev pub has_host : List ImpHosts → ℕ → ℕ → Bool
-has_host imps imp host = list_any (λ i. i.imp == imp && nat_lt host i.hosts) imps
-
-abbrev pub host_if : Bool → Host → List Host
-host_if true h = h ∷ []
-host_if false h = []
-
--- the hosts at places below this one: four places for each IMP, from IMP 1 on
-unfoldable pub hosts_below : List ImpHosts → ℕ → List Host
-hosts_below imps zero = []
-hosts_below imps (suc place) = hosts_below imps place ++ host_if (has_host imps (place / 4 + 1) (place % 4)) (record { imp = place / 4 + 1; host = place % 4 })
-
--- all hosts of a topology, in order: four places for each IMP that there can be
-abbrev pub hosts_of : TopologyFields → List Host
-hosts_of t = hosts_below t.imps (most_imps * most_hosts)
 
 -- ---- sites
 

@@ -7,10 +7,9 @@ ghost use Rattle.interface.specs.Host.{Host, is_host};
 ghost use Rattle.topology.specs.declared.network.CarrierKind.TheVariants as kind;
 ghost use Rattle.topology.specs.Examples.{document, foreign_table, naming, naming_table, raw_document, imp_table};
 ghost use Rattle.topology.specs.Examples.{line_table, two_imps, alone, one_line, imp_hosts, line, five_lines};
-ghost use Rattle.topology.specs.Examples.{one_stranger, strangers_in, strangers_of, two};
+ghost use Rattle.topology.specs.Examples.{lone_imp, strangers_in, strangers_of, two};
 ghost use Rattle.topology.specs.Topology.{AreSites, TopologyFields, most_network_lines, IsTopology, hosts_from};
-ghost use Rattle.topology.specs.Topology.{hosts_of, has_host, has_ports, imp_of, sites_of, topology_in, topology_of};
-ghost use Rattle.topology.specs.Mixed.{MixedFields, mixed_in, mixed_of};
+ghost use Rattle.topology.specs.Topology.{hosts_of, has_host, has_ports, imp_of, sites_of, topology_of};
 ghost use Rattle.topology.specs.Laws.{WorkedSites};
 
 /// The hosts of a topology are those that its IMPs have.
@@ -21,11 +20,6 @@ pub fn hosts_of_imps()
 /// The hosts of a topology are those that its sites list, one IMP after the other.
 pub fn hosts_of_sites()
     ensures { (t : TopologyFields) → IsTopology t → hosts_of t ≡ hosts_from 0 (sites_of t) }
-{}
-
-/// A document describes a topology with strangers or one without, and never both.
-pub fn one_kind()
-    ensures { (text : List ℕ) (t : TopologyFields) (m : MixedFields) → topology_in text ≡ Some t → mixed_in text ≡ Some m → ⊥ }
 {}
 
 /// No IMP has the number 0, the others go up to the greatest, and none has more than four hosts.
@@ -39,12 +33,12 @@ pub fn worked_sites()
 {}
 
 /// Small documents, and what they describe.
-#[tactic(auto, unfolding(crate::specs::Topology::numbered_below))]
+#[tactic(auto, unfolding(crate::specs::Topology::numbered_below, crate::specs::Topology::hosts_below))]
 pub fn worked_documents()
     // IMPs by rising number, lines as they are listed; without their keys the carrier is a subnet, and there are host programs
-    ensures subnet { topology_of (document two_imps (one_line 2 1)) ≡ Some (record { carrier = kind.Subnet; raw = false; imps = imp_hosts 1 2 ∷ imp_hosts 2 1 ∷ []; lines = line 2 1 ∷ [] }) }
-    ensures plain { topology_of (raw_document (codes "plain") two_imps) ≡ Some (record { carrier = kind.Plain; raw = true; imps = imp_hosts 1 2 ∷ imp_hosts 2 1 ∷ []; lines = [] }) }
-    ensures no_lines { alone 63 0 ≡ Some (record { carrier = kind.Subnet; raw = false; imps = imp_hosts 63 0 ∷ []; lines = [] }) }
+    ensures subnet { topology_of (document two_imps (one_line 2 1)) ≡ Some (record { carrier = kind.Subnet; raw = false; imps = imp_hosts 1 2 ∷ imp_hosts 2 1 ∷ []; lines = line 2 1 ∷ []; strangers = [] }) }
+    ensures plain { topology_of (raw_document (codes "plain") two_imps) ≡ Some (record { carrier = kind.Plain; raw = true; imps = imp_hosts 1 2 ∷ imp_hosts 2 1 ∷ []; lines = []; strangers = [] }) }
+    ensures no_lines { alone 63 0 ≡ Some (record { carrier = kind.Subnet; raw = false; imps = imp_hosts 63 0 ∷ []; lines = []; strangers = [] }) }
 
     // another carrier, another key, no IMP, the key of the IMPs missing
     ensures carrier { topology_of (raw_document (codes "Plain") two_imps) ≡ None }
@@ -74,25 +68,25 @@ pub fn worked_documents()
 #[tactic(auto, unfolding(crate::specs::Topology::numbered_below, crate::specs::Topology::hosts_below))]
 pub fn worked_strangers()
     // the second of two hosts, and hosts 0 and 2 of three
-    ensures one { mixed_of (document (naming 2 2 (1 ∷ [])) no_items) ≡ Some one_stranger }
+    ensures one { topology_of (document (naming 2 2 (1 ∷ [])) no_items) ≡ Some (lone_imp (strangers_of 2 (1 ∷ []))) }
     ensures two { strangers_in (document (naming 1 3 (0 ∷ 2 ∷ [])) no_items) ≡ Some (strangers_of 1 (0 ∷ 2 ∷ [])) }
 
     // a number of no host, one that is there twice, and one that is out of order
-    ensures no_host { mixed_of (document (naming 2 2 (2 ∷ [])) no_items) ≡ None }
-    ensures twice { mixed_of (document (naming 2 2 (1 ∷ 1 ∷ [])) no_items) ≡ None }
-    ensures order { mixed_of (document (naming 2 2 (1 ∷ 0 ∷ [])) no_items) ≡ None }
+    ensures no_host { topology_of (document (naming 2 2 (2 ∷ [])) no_items) ≡ None }
+    ensures twice { topology_of (document (naming 2 2 (1 ∷ 1 ∷ [])) no_items) ≡ None }
+    ensures order { topology_of (document (naming 2 2 (1 ∷ 0 ∷ [])) no_items) ≡ None }
 
     // of two IMPs only the second names host 1, whatever number the other's host has; the second names wrongly; no list
     ensures its_imp { strangers_in (two (imp_table 1 2) (naming_table 2 2 (1 ∷ []))) ≡ Some (strangers_of 2 (1 ∷ [])) }
-    ensures second { mixed_of (two (naming_table 1 2 (1 ∷ [])) (naming_table 2 2 (2 ∷ []))) ≡ None }
-    ensures no_list { mixed_of (two (foreign_table 1 2 (integer (pos 1))) (naming_table 2 2 (1 ∷ []))) ≡ None }
+    ensures second { topology_of (two (naming_table 1 2 (1 ∷ [])) (naming_table 2 2 (2 ∷ []))) ≡ None }
+    ensures no_list { topology_of (two (foreign_table 1 2 (integer (pos 1))) (naming_table 2 2 (1 ∷ []))) ≡ None }
 
-    // where there are no host programs, where nobody is named, and without the key
-    ensures raw { mixed_of (raw_document (codes "plain") (naming 2 2 (1 ∷ []))) ≡ None }
-    ensures nobody { (mixed_of (document (naming 2 2 []) no_items) ≡ None) × (mixed_of (document two_imps no_items) ≡ None) }
+    // where nobody is named there are no strangers, whether an IMP has the key or not
+    ensures nobody { (topology_of (document (naming 2 2 []) no_items) ≡ Some (lone_imp [])) × (topology_of (document (item (imp_table 2 2) no_items) no_items) ≡ Some (lone_imp [])) }
 
-    // and with it the document describes no other topology
-    ensures other { (topology_of (document (naming 2 2 (1 ∷ [])) no_items) ≡ None) × (topology_of (document (naming 2 2 []) no_items) ≡ None) }
+    // where there are no host programs a list may only be empty
+    ensures raw { topology_of (raw_document (codes "plain") (naming 2 2 (1 ∷ []))) ≡ None }
+    ensures raw_nobody { topology_of (raw_document (codes "subnet") (naming 2 2 [])) ≡ Some (record (lone_imp []) { raw = true }) }
 {}
 
 /// There are at most 157 lines: each has two ends, and each of 63 IMPs has five at most.

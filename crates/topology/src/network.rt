@@ -2,20 +2,21 @@
 
 ghost use Rattle.std.specs.Prelude.{◌≡◌, ◌≢◌, ◌↔◌, ◌==◌, ◌*◌, ◌≤◌, not, true, Some, None, Err, ◌/◌, ◌%◌, ◌+◌, ◌<◌};
 ghost use Rattle.std.specs.Prelude.{◌++◌, [], IfOk, IfErr, OnOk, codes, length};
-ghost use Rattle.std.specs.List.{list_any, list_all, cons_option};
+ghost use Rattle.std.specs.List.{All, list_any, list_all, cons_option};
 ghost use Rattle.toml.specs.View.{view, items_view};
 ghost use Rattle.toml.specs.Data.{get};
 ghost use Rattle.toml.specs.Errors.{IsBlank, IsMemory};
 ghost use Rattle.interface.specs.Calls.{InOrder};
-ghost use Rattle.interface.specs.Host.{most_imps};
+ghost use Rattle.interface.specs.Host.{is_host, most_imps};
 ghost use Rattle.topology.specs.Topology.{TopologyFields, most_hosts, most_network_lines, hosts_of, has_host};
-ghost use Rattle.topology.specs.Topology.{topology_in, size, has, one_if, known_members, carrier_of, raw_of};
+ghost use Rattle.topology.specs.Topology.{topology_in, topology_of, naming, network_of, ArePicked, number_of, imp_of, imps_of};
+ghost use Rattle.topology.specs.Topology.{size, has, one_if, known_members, carrier_of, raw_of};
 ghost use Rattle.topology.specs.Topology.{number_at, host_if, hosts_from, site_of, sites_of, AreSites, is_imp, is_line};
 ghost use Rattle.topology.specs.Topology.{each_of, line_of, lines_of, are_imps, is_there, are_lines};
-ghost use Rattle.topology.specs.Naming.{imp_naming, imps_naming, network_of, number_of};
 ghost use Rattle.topology.specs.Topology.{are_apart, joins_same, has_ports, line_count, by_number, imp_of_number};
-ghost use Rattle.topology.specs.Reading.{Described, DescribedIn};
+ghost use Rattle.topology.specs.Reading.{Described, DescribedIn, MemoryLast};
 
+use crate::strangers::{all_foreign, listed, strangers_of};
 use interface::{HostAddr, MOST_HOSTS, MOST_IMPS};
 use std::alloc::{AllocError, AllocFailed, Global};
 use std::marker::Model;
@@ -52,14 +53,15 @@ pub struct LineEnds {
     pub b: u8,
 }
 
-/// A network's IMPs by rising number, its lines in order, and what carries its messages. The rules of a
-/// network hold of every value.
+/// A network's IMPs by rising number, its lines in order, what carries its messages, and which of its hosts are
+/// strangers, that run no program of these. The rules of a network hold of every value.
 #[derive(Debug, Drop)]
 pub struct Topology {
     carrier: CarrierKind,
     raw: bool,
     imps: Vec<ImpHosts>,
     lines: Vec<LineEnds>,
+    strangers: Vec<HostAddr>,
 }
 
 impl Model for Topology {
@@ -67,9 +69,9 @@ impl Model for Topology {
 
     ghost Value = { TopologyFields };
 
-    ghost view = { λ t. record { carrier = t.carrier; raw = t.raw; imps = t.imps.items; lines = t.lines.items } };
+    ghost view = { λ t. record { carrier = t.carrier; raw = t.raw; imps = t.imps.items; lines = t.lines.items; strangers = t.strangers.items } };
 
-    ghost invariant = { λ t. IsTopology (record { carrier = t.carrier; raw = t.raw; imps = t.imps.items; lines = t.lines.items }) };
+    ghost invariant = { λ t. IsTopology (record { carrier = t.carrier; raw = t.raw; imps = t.imps.items; lines = t.lines.items; strangers = t.strangers.items }) };
 }
 
 /// Why there is no topology.
@@ -104,7 +106,8 @@ impl<T: Drop> From<AllocFailed<T>> for TopologyFault {
 }
 
 impl Topology {
-    /// Returns the topology that this TOML document describes.
+    /// Returns the topology that this TOML document describes. Each IMP may have a key `foreign`, with the numbers of its
+    /// strangers.
     ///
     /// Errors: `BadTopology` where the text is no TOML 1.1 document or describes no topology. `OutOfMemory` may
     /// come for any text that isn't blank, since its values are put in memory.
@@ -113,21 +116,27 @@ impl Topology {
         ensures memory { result ≡ Err TopologyFault.OutOfMemory → ¬ IsBlank text.now }
     {
         match toml::table_from_str(alloc, text) {
-            Ok(table) => Topology::from_document(alloc, &Value::Table(table), false),
+            Ok(table) => Topology::from_document(alloc, &Value::Table(table)),
             Err(error) => Err(fault_of(&error)),
         }
     }
 
-    /// Returns the topology that a document's value describes. Its IMPs may name strangers, or not: which hosts these are
-    /// is read elsewhere.
+    /// Returns the topology that a document's value describes.
     ///
     /// Errors: `BadTopology`; `OutOfMemory`, only for a document that lists an IMP.
-    pub(crate) fn from_document(
-        alloc: Global,
-        document: &Value,
-        may_name: bool,
-    ) -> Result<Topology, TopologyFault>
-        ensures described { Described (network_of may_name (view document.now)) result }
+    fn from_document(alloc: Global, document: &Value) -> Result<Topology, TopologyFault>
+        ensures described { Described (topology_of (view document.now)) result }
+        ensures memory { result ≡ Err TopologyFault.OutOfMemory → has (codes "imp") (view document.now) ≡ true }
+    {
+        let network = Topology::network_of(alloc, document)?;
+        network.naming(alloc, listed(document, "imp"))
+    }
+
+    /// Returns the network that a document's value describes, without strangers, whichever its IMPs name.
+    ///
+    /// Errors: `BadTopology`; `OutOfMemory`, only for a document that lists an IMP.
+    fn network_of(alloc: Global, document: &Value) -> Result<Topology, TopologyFault>
+        ensures described { Described (network_of (view document.now)) result }
         ensures memory { result ≡ Err TopologyFault.OutOfMemory → has (codes "imp") (view document.now) ≡ true }
     {
         if size(document) != known_members(document) {
@@ -135,7 +144,7 @@ impl Topology {
         }
         let carrier = carrier_of(document).ok_or(TopologyFault::BadTopology)?;
         let raw = raw_of(document).ok_or(TopologyFault::BadTopology)?;
-        let listed = imps_of(alloc, document, may_name)?;
+        let listed = imps_of(alloc, document)?;
         let lines = lines_of(alloc, document)?;
         let imps = by_number(alloc, &listed)?;
         if imps.len() == listed.len() && are_imps(&imps) && are_lines(&imps, &lines) {
@@ -144,10 +153,26 @@ impl Topology {
                 raw,
                 imps,
                 lines,
+                strangers: Vec::new(alloc),
             })
         } else {
             Err(TopologyFault::BadTopology)
         }
+    }
+
+    /// Returns the topology with the strangers that its IMPs name, as a document lists them.
+    ///
+    /// Errors: `BadTopology` where an IMP names hosts wrongly, or any in a raw network; `OutOfMemory`, only where nothing
+    /// is refused.
+    fn naming(mut self, alloc: Global, imps: &[Value]) -> Result<Topology, TopologyFault>
+        ensures described { Described (naming (items_view imps.now) self) result }
+        ensures memory { MemoryLast (naming (items_view imps.now) self) result }
+    {
+        if !all_foreign(self.raw, imps) {
+            return Err(TopologyFault::BadTopology);
+        }
+        self.strangers = strangers_of(alloc, &self.imps, imps)?;
+        Ok(self)
     }
 
     /// Returns what carries the messages.
@@ -186,6 +211,16 @@ impl Topology {
         Ok(hosts)
     }
 
+    /// Returns the hosts that are strangers, by IMP and then by number. A raw network has none.
+    pub fn strangers(&self) -> &[HostAddr]
+        ensures all { result.now ≡ self.now.strangers }
+        ensures there { All (λ h. is_host (hosts_of self.now) h ≡ true) self.now.strangers }
+        ensures picked { ArePicked (hosts_of self.now) self.now.strangers }
+        ensures raw { self.now.raw ≡ true → self.now.strangers ≡ [] }
+    {
+        &self.strangers
+    }
+
     /// By number, from 0 to [`MOST_IMPS`]: how many hosts the IMP of that number has, where there is one.
     ///
     /// Errors: `AllocError`.
@@ -212,7 +247,7 @@ impl Topology {
 }
 
 /// Returns why a text is not a document, as a fault of a topology: only running out of memory is reported as such.
-pub(crate) fn fault_of(error: &toml::de::Error) -> TopologyFault
+fn fault_of(error: &toml::de::Error) -> TopologyFault
     ensures memory { (result ≡ TopologyFault.OutOfMemory) ↔ IsMemory error.now }
 {
     if error.is_memory() {
@@ -291,11 +326,11 @@ pub(crate) fn number_of(value: &Value) -> Option<u8>
     u8::try_from(value.as_integer()?).ok()
 }
 
-/// Returns the IMP that a table with the keys `id` and `hosts` describes. It may name strangers, or not.
-fn imp_of(value: &Value, may_name: bool) -> Option<ImpHosts>
-    ensures { result ≡ imp_naming may_name (view value.now) }
+/// Returns the IMP that a table with the keys `id` and `hosts`, and perhaps `foreign`, describes.
+fn imp_of(value: &Value) -> Option<ImpHosts>
+    ensures { result ≡ imp_of (view value.now) }
 {
-    if size(value) != 2 + usize::from(may_name && has(value, "foreign")) {
+    if size(value) != 2 + usize::from(has(value, "foreign")) {
         return None;
     }
     Some(ImpHosts {
@@ -318,26 +353,26 @@ fn line_of(value: &Value) -> Option<LineEnds>
 }
 
 /// Returns the IMPs of a document, in its order.
-fn imps_of(alloc: Global, document: &Value, may_name: bool) -> Result<Vec<ImpHosts>, TopologyFault>
-    ensures described { DescribedIn (imps_naming may_name (get (codes "imp") (view document.now))) result }
+fn imps_of(alloc: Global, document: &Value) -> Result<Vec<ImpHosts>, TopologyFault>
+    ensures described { DescribedIn (imps_of (get (codes "imp") (view document.now))) result }
     ensures memory { result ≡ Err TopologyFault.OutOfMemory → has (codes "imp") (view document.now) ≡ true }
 {
     let Some(listed) = document.get("imp") else {
         return Err(TopologyFault::BadTopology);
     };
     match listed.as_array() {
-        Some(values) => each_imp(alloc, values, may_name),
+        Some(values) => each_imp(alloc, values),
         None => Err(TopologyFault::BadTopology),
     }
 }
 
 /// Returns the IMPs that these values describe.
-fn each_imp(alloc: Global, values: &[Value], may_name: bool) -> Result<Vec<ImpHosts>, TopologyFault>
-    ensures { DescribedIn (each_of (imp_naming may_name) (items_view values.now)) result }
+fn each_imp(alloc: Global, values: &[Value]) -> Result<Vec<ImpHosts>, TopologyFault>
+    ensures { DescribedIn (each_of imp_of (items_view values.now)) result }
 {
     let mut imps = Vec::new(alloc);
     for value in values {
-        let Some(imp) = imp_of(value, may_name) else {
+        let Some(imp) = imp_of(value) else {
             return Err(TopologyFault::BadTopology);
         };
         imps.push(imp)?;

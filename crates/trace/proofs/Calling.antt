@@ -12,10 +12,10 @@ use Rattle.script.specs.declared.event.RawEvent.TheVariants as event
 -- ---- the call
 
 pub called_offer : {C : Type 0} (calls : Calls C) (old new : C) (m : HostMessage) (r : Result (Unit {0}) CarrierFault) → calls.offers old m r new → ShowsOffer (calls.seen old) m r (calls.seen new) → Called calls old (event.Out m) r new
-called_offer calls old new m r gives shown = record { gives = gives; grew = grew_offer (calls.seen old) m r (calls.seen new) shown; refused = refused_offer (calls.seen old) m r (calls.seen new) shown }
+called_offer calls old new m r gives shown = record { gives = gives; grew = grew_offer _ m r _ shown; refused = refused_offer _ m r _ shown }
 
 pub called_take : {C : Type 0} (calls : Calls C) (old new : C) (h : Host) (answer : Result (Option Inbound) CarrierFault) → calls.takes old h answer new → ShowsTake (calls.seen old) h answer (calls.seen new) → Called calls old (event.Take h) (outcome_of answer) new
-called_take calls old new h answer gives shown = record { gives = (answer, gives, refl); grew = grew_take (calls.seen old) h answer (calls.seen new) shown; refused = refused_take (calls.seen old) h answer (calls.seen new) shown }
+called_take calls old new h answer gives shown = record { gives = (answer, gives, refl); grew = grew_take _ h answer _ shown; refused = refused_take _ h answer _ shown }
 
 -- ---- what it changes
 
@@ -34,7 +34,7 @@ tells calls inside spot old new x r before after parts a b called goes was is ch
     let cs : List Crossing = drop (length before) after in
     let shown : List Shown = shown_crossings cs ++ shown_refusal r in
     let happened : Happens calls old x.event new shown =
-    record { outcome = r; gives = called.gives; goes_on = goes; crossings = cs; grown = gained (calls.seen old) (calls.seen new) before after called.grew was is; lines = refl } in
+    record { outcome = r; gives = called.gives; goes_on = goes; crossings = cs; grown = gained _ _ before after called.grew was is; lines = refl } in
     let line : List ℕ = trace_line spot x (inside.fate old x.event) shown (change_text inside old new) in
     let same : ended_line (trace_line spot x (inside.fate old x.event) shown parts) ≡ ended_line line ++ [] =
     ap (λ (changes : List ℕ). ended_line (trace_line spot x (inside.fate old x.event) shown changes)) changed ∙ sym (append-nil (ended_line line)) in

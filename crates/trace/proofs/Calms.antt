@@ -1,5 +1,5 @@
 -- A calm of plain mailboxes is its takings one after another.
-use Rattle.trace.proofs.Common.{All-cons, All-nil, All-weaker, All, Host, is_host, Shown, Crossed, RawEvent, all_takings, elements_of, events_of, from_boxes, no_course, round_of, rounds_from, taking}
+use Rattle.trace.proofs.Common.{All-cons, All-nil, All-weaker, All, Host, is_host, Shown, Crossed, RawEvent, elements_of, events_of, from_boxes, no_course, round_of, rounds_from, taking}
 use Rattle.std.proofs.Common.{◌≡◌, ◌&&◌, ◌||◌, ℕ, Bool, true, false, not, List, [], ◌∷◌, Option, Some, None, Result, Ok, Err, is_some, if◌then◌else◌, refl, sym, ap, ◌∙◌, subst}
 use Rattle.std.proofs.lemmas.Bool.{false≢true, and_right}
 use Rattle.leader1822.specs.Boxes.{Boxes, host_refusal, inbound_taken, is_running, next_for, take_grows, plain_calls}
@@ -8,7 +8,7 @@ use Rattle.interface.specs.declared.CarrierFault.{CarrierFault}
 use Rattle.interface.specs.declared.CarrierFault.TheVariants as fault
 use Rattle.interface.specs.declared.Inbound.{Inbound}
 use Rattle.interface.specs.declared.Inbound.TheVariants as inbound
-use Rattle.replay.specs.Replay.{AllTake, GoesOn, Happens, IsOneCall, Quiet, Replays, calmly, outcome_of}
+use Rattle.replay.specs.Replay.{GoesOn, Happens, IsOneCall, Quiet, Replays, calmly, outcome_of}
 use Rattle.script.specs.declared.event.RawEvent.TheVariants as event
 use Rattle.trace.proofs.Courses.{AllEvents, all_takings_events, rounds_events}
 use Rattle.trace.proofs.Each.{Went, goes_after_take, went}
@@ -53,12 +53,12 @@ goes_taking round h old new i free is left =
       grown = log;
       lines = refl;
     } in
-    record { ok = refl; left = left; holds = tt; run = run_one plain_calls old new (event.Take h) (crossing_of i ∷ []) once log }
+    record { ok = refl; left = left; holds = tt; run = run_one plain_calls old new _ (crossing_of i ∷ []) once log }
 
 takes_so : AllTakeSo traced
 takes_so old h answer new holds t goes = by answer t goes where
   took : (a : Result (Option Inbound) CarrierFault) → plain_calls.takes old h a new → GoesOn (outcome_of a) → Went (host_refusal old h) (λ o. (o ≡ next_for old h) × (new ≡ inbound_taken old h o)) old a new
-  took a t g = went (host_refusal old h) (take_grows old h) (λ o. (o ≡ next_for old h) × (new ≡ inbound_taken old h o)) old a new t (goes_after_take a g)
+  took a t g = went (host_refusal old h) (take_grows old h) _ old a new t (goes_after_take a g)
 
   by : (a : Result (Option Inbound) CarrierFault) → plain_calls.takes old h a new → GoesOn (calmly (outcome_of a)) → TakesSo traced old h a new
   by (Ok (Some i)) t goes =
@@ -78,11 +78,11 @@ goes_quiet : (old : Boxes) (q : Result (Unit {0}) CarrierFault) (mid : Boxes) �
 goes_quiet old q mid (Ok done, rounds, is) goes = goes_none traced old q mid tt is rounds.1
 goes_quiet old q mid (Err f, rounds, is) goes =
     let calm : (is_halt f || is_memory f) ≡ false = goes_calmly f (subst GoesOn is goes) in
-    absurd (false≢true (sym (or_first (is_halt f) (is_memory f) calm) ∙ ap is_halt rounds.1))
+    absurd (false≢true (sym (or_first _ _ calm) ∙ ap is_halt rounds.1))
 
 pub goes_round : AllRoundsGo traced round_of
 goes_round round old r new holds (q, mid, first, more) goes =
-    goes_chain traced (Quiet plain_calls) (AllTake plain_calls old.hosts) (no_course old) (all_takings from_boxes round old.hosts) old new r
+    goes_chain traced (Quiet plain_calls) _ _ _ old new r
     (λ q mid k g. goes_quiet old q mid k g) (λ q mid m k g. goes_all traced takes_so round old.hosts mid r new tt k g) q mid first more goes
 
 pub elementary : (old new : Boxes) (e : RawEvent) (shown : List Shown) → Happens plain_calls old e new shown → Replays plain_calls old (events_of (elements_of old e)) new shown

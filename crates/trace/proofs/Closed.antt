@@ -67,7 +67,7 @@ plain_passes depth c cs plain = by (c == 34) (opens c) (closes c) (c == 44) plai
 all_plain : (t : List ℕ) → All (λ c. is_plain c ≡ true) t → (depth : ℕ) (r : List ℕ) → front depth false (t ++ r) ≡ t ++ front depth false r
 all_plain [] plain depth r = refl
 all_plain (c ∷ t) plain depth r =
-    plain_passes depth c (t ++ r) (All-head (λ x. is_plain x ≡ true) c t plain) ∙ ap (λ xs. c ∷ xs) (all_plain t (All-tail (λ x. is_plain x ≡ true) c t plain) depth r)
+    plain_passes depth c _ (All-head (λ x. is_plain x ≡ true) c t plain) ∙ ap (λ xs. c ∷ xs) (all_plain t (All-tail (λ x. is_plain x ≡ true) c t plain) depth r)
 
 -- two texts, one after the other
 pub both_closed : (t u : List ℕ) → IsClosed t → IsClosed u → IsClosed (t ++ u)
@@ -98,7 +98,7 @@ string_closed t lacks = record {
 
 pub member_closed : (name value : List ℕ) → Lacks 34 name → IsClosed value → IsClosed (member name value)
 member_closed name value lacks closed =
-    both_closed (quoted name) (58 ∷ value) (string_closed name lacks) (both_closed (58 ∷ []) value (plain_closed (58 ∷ []) (λ e. absurd (cc)) (All-cons (λ c. is_plain c ≡ true) 58 [] refl (All-nil (λ c. is_plain c ≡ true)))) closed)
+    both_closed _ _ (string_closed name lacks) (both_closed _ value (plain_closed (58 ∷ []) (λ e. absurd (cc)) (All-cons (λ c. is_plain c ≡ true) 58 [] refl (All-nil (λ c. is_plain c ≡ true)))) closed)
 
 -- items with commas between, in brackets
 further_passes : (end : ℕ) → ((depth : ℕ) (r : List ℕ) → front (suc depth) false (end ∷ r) ≡ end ∷ front depth false r) → (xs : List (List ℕ)) → All IsClosed xs
@@ -107,7 +107,7 @@ further_passes end shuts [] closed depth r = shuts depth r
 further_passes end shuts (x ∷ xs) closed depth r =
     let one : IsClosed x = All-head IsClosed x xs closed in
     let more = further_passes end shuts xs (All-tail IsClosed x xs closed) depth r in
-    ap (λ zs. 44 ∷ zs) (ap (front (suc depth) false) (append_assoc x (further (end ∷ []) xs) r) ∙ one.passes (suc depth) (further (end ∷ []) xs ++ r) ∙ ap (λ zs. x ++ zs) more ∙ sym (append_assoc x (further (end ∷ []) xs) (front depth false r)))
+    ap (λ zs. 44 ∷ zs) (ap (front (suc depth) false) (append_assoc x (further _ xs) r) ∙ one.passes (suc depth) (further _ xs ++ r) ∙ ap (λ zs. x ++ zs) more ∙ sym (append_assoc x (further _ xs) (front depth false r)))
 
 listed_passes : (end : ℕ) → ((depth : ℕ) (r : List ℕ) → front (suc depth) false (end ∷ r) ≡ end ∷ front depth false r) → (xs : List (List ℕ)) → All IsClosed xs
     → (depth : ℕ) (r : List ℕ) → front (suc depth) false (listed (end ∷ []) xs ++ r) ≡ listed (end ∷ []) xs ++ front depth false r
@@ -115,7 +115,7 @@ listed_passes end shuts [] closed depth r = shuts depth r
 listed_passes end shuts (x ∷ xs) closed depth r =
     let one : IsClosed x = All-head IsClosed x xs closed in
     let more = further_passes end shuts xs (All-tail IsClosed x xs closed) depth r in
-    ap (front (suc depth) false) (append_assoc x (further (end ∷ []) xs) r) ∙ one.passes (suc depth) (further (end ∷ []) xs ++ r) ∙ ap (λ zs. x ++ zs) more ∙ sym (append_assoc x (further (end ∷ []) xs) (front depth false r))
+    ap (front (suc depth) false) (append_assoc x (further _ xs) r) ∙ one.passes (suc depth) (further _ xs ++ r) ∙ ap (λ zs. x ++ zs) more ∙ sym (append_assoc x (further _ xs) (front depth false r))
 
 pub array_closed : (xs : List (List ℕ)) → All IsClosed xs → IsClosed (array xs)
 array_closed xs closed = record { some = λ e. absurd (cc); passes = λ depth r. ap (λ zs. 91 ∷ zs) (listed_passes 93 (λ d s. refl) xs closed depth r) }
@@ -143,19 +143,19 @@ further_once end a b ends [] [] p q e = refl
 further_once end a b ends [] (y ∷ ys) p q e = absurd (other_first b e)
 further_once end a b ends (x ∷ xs) [] p q e = absurd (other_first a e)
 further_once end a b ends (x ∷ xs) (y ∷ ys) p q e =
-    let cut : SameCut x (further (end ∷ []) xs) y (further (end ∷ []) ys) = one_front x (further (end ∷ []) xs) y (further (end ∷ []) ys) (All-head IsClosed x xs p) (All-head IsClosed y ys q) (further_ends end ends xs) (further_ends end ends ys) (rest_same e) in
+    let cut : SameCut x (further (end ∷ []) xs) y (further (end ∷ []) ys) = one_front x _ y _ (All-head IsClosed x xs p) (All-head IsClosed y ys q) (further_ends end ends xs) (further_ends end ends ys) (rest_same e) in
     ap₂ (λ (z : List ℕ) (zs : List (List ℕ)). z ∷ zs) cut.front (further_once end a b ends xs ys (All-tail IsClosed x xs p) (All-tail IsClosed y ys q) cut.back)
 
 -- an item does not begin with the end
 not_end : (end : ℕ) → ((r : List ℕ) → Ends (end ∷ r)) → (x : List ℕ) (xs : List (List ℕ)) → IsClosed x → end ∷ [] ≡ x ++ further (end ∷ []) xs → ⊥
-not_end end ends x xs closed e = closed.some (sym (front_is x (further (end ∷ []) xs) closed (further_ends end ends xs)) ∙ sym (ap (front 0 false) e) ∙ ends [])
+not_end end ends x xs closed e = closed.some (sym (front_is x _ closed (further_ends end ends xs)) ∙ sym (ap (front 0 false) e) ∙ ends [])
 
 listed_once : (end : ℕ) → (44 == end) ≡ false → (end == 44) ≡ false → ((r : List ℕ) → Ends (end ∷ r)) → (xs ys : List (List ℕ)) → All IsClosed xs → All IsClosed ys → listed (end ∷ []) xs ≡ listed (end ∷ []) ys → xs ≡ ys
 listed_once end a b ends [] [] p q e = refl
 listed_once end a b ends [] (y ∷ ys) p q e = absurd (not_end end ends y ys (All-head IsClosed y ys q) e)
 listed_once end a b ends (x ∷ xs) [] p q e = absurd (not_end end ends x xs (All-head IsClosed x xs p) (sym e))
 listed_once end a b ends (x ∷ xs) (y ∷ ys) p q e =
-    let cut : SameCut x (further (end ∷ []) xs) y (further (end ∷ []) ys) = one_front x (further (end ∷ []) xs) y (further (end ∷ []) ys) (All-head IsClosed x xs p) (All-head IsClosed y ys q) (further_ends end ends xs) (further_ends end ends ys) e in
+    let cut : SameCut x (further (end ∷ []) xs) y (further (end ∷ []) ys) = one_front x _ y _ (All-head IsClosed x xs p) (All-head IsClosed y ys q) (further_ends end ends xs) (further_ends end ends ys) e in
     ap₂ (λ (z : List ℕ) (zs : List (List ℕ)). z ∷ zs) cut.front (further_once end a b ends xs ys (All-tail IsClosed x xs p) (All-tail IsClosed y ys q) cut.back)
 
 pub array_once : (xs ys : List (List ℕ)) → All IsClosed xs → All IsClosed ys → array xs ≡ array ys → xs ≡ ys
@@ -186,7 +186,7 @@ pub record Spelled {X : Type 0} (text : X → List ℕ) (IsValid : X → Type 0)
 pub strings_spelled : {X : Type 0} (text : X → List ℕ) (IsValid : X → Type 0) → Words text IsValid → Spelled (λ x. quoted (text x)) IsValid
 strings_spelled text IsValid words = record {
   closed = λ x valid. string_closed (text x) (words.plain x valid);
-  once = λ x y p q e. words.once x y p q (quoted_once (text x) (text y) e);
+  once = λ x y p q e. words.once x y p q (quoted_once _ _ e);
 }
 
 -- lists
@@ -204,7 +204,7 @@ each_once {X} text IsValid spelled (x ∷ xs) (y ∷ ys) p q e =
 pub lists_spelled : {X : Type 0} (text : X → List ℕ) (IsValid : X → Type 0) → Spelled text IsValid → Spelled (λ xs. array (map text xs)) (All IsValid)
 lists_spelled text IsValid spelled = record {
   closed = λ xs p. array_closed (map text xs) (each_closed text IsValid spelled xs p);
-  once = λ xs ys p q e. each_once text IsValid spelled xs ys p q (array_once (map text xs) (map text ys) (each_closed text IsValid spelled xs p) (each_closed text IsValid spelled ys q) e);
+  once = λ xs ys p q e. each_once text IsValid spelled xs ys p q (array_once _ _ (each_closed text IsValid spelled xs p) (each_closed text IsValid spelled ys q) e);
 }
 
 -- ---- members

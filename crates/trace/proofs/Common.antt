@@ -42,7 +42,7 @@ pub use Rattle.trace.specs.Named.{IsFlowNamed, IsHostNamed, IsShort}
 pub use Rattle.trace.specs.Parts.{Down, Waiting}
 pub use Rattle.trace.specs.Steps.{Called, EventEnds, OnlyReached, RoundEnds}
 pub use Rattle.trace.specs.Texts.{all_members, further, listed, member, object, part_name, part_text, parts_members, queues_text, quoted, trace_line}
-pub use Rattle.trace.specs.Traces.{EndsEvent, EndsRound, GoesOnWith, HasHappened, Inside, IsStill, MayTell, SaysAll, StopsElement, TellsElement, TellsEvent, TellsMoving, TellsRound, TellsRounds, TellsStill, WritesTrace, change_text, numbered_from, plain_inside}
+pub use Rattle.trace.specs.Traces.{EndsEvent, EndsRound, GoesOnWith, HasHappened, Inside, IsStill, MayTell, SaysAll, StopsElement, TellsElement, TellsEvent, TellsMoving, TellsRound, TellsRounds, WritesTrace, change_text, numbered_from, plain_inside}
 pub use Rattle.trace.specs.declared.all_parts.AllParts.{AllParts}
 pub use Rattle.trace.specs.declared.element.Element.{Element}
 pub use Rattle.trace.specs.declared.element.Spot.{Spot}

@@ -41,18 +41,18 @@ takings_events {S} P giving is round h (suc times) s = by (λ t. takings_events 
   by : ((t : S) → AllEvents P (takings giving round h times t)) → (b : Bool) → giving.is_given s h ≡ b → AllEvents P (takings giving round h (suc times) s)
   by more true e =
       subst (λ (c : Course S). AllEvents P c) (sym (one_given giving round h times s e))
-      (then_events P (taking giving round h s) (takings giving round h times) (one_events P round (event.Take h) (giving.after s h) (is h)) more)
+      (then_events P (taking giving round h s) (takings giving round h times) (one_events P round _ (giving.after s h) (is h)) more)
   by more false e = subst (λ (c : Course S). AllEvents P c) (sym (none_given giving round h times s e)) (none_events P s)
 
 pub all_takings_events : {S : Type 0} (P : RawEvent → Type 0) (giving : Giving S) → ((h : Host) → P (event.Take h)) → (round : ℕ) (hosts : List Host) (s : S) → AllEvents P (all_takings giving round hosts s)
 all_takings_events P giving is round [] s = none_events P s
 all_takings_events P giving is round (h ∷ hosts) s =
-    then_events P (takings giving round h 16 s) (all_takings giving round hosts) (takings_events P giving is round h 16 s) (λ t. all_takings_events P giving is round hosts t)
+    then_events P _ (all_takings giving round hosts) (takings_events P giving is round h 16 s) (λ t. all_takings_events P giving is round hosts t)
 
 pub rounds_events : {S : Type 0} (P : RawEvent → Type 0) (whole : ℕ → S → Course S) → ((round : ℕ) (s : S) → AllEvents P (whole round s)) → (round times : ℕ) (s : S) → AllEvents P (rounds_from whole round times s)
 rounds_events P whole is round zero s = none_events P s
 rounds_events P whole is round (suc times) s =
-    then_events P (whole round s) (rounds_from whole (suc round) times) (is round s) (λ t. rounds_events P whole is (suc round) times t)
+    then_events P _ (rounds_from whole (suc round) times) (is round s) (λ t. rounds_events P whole is (suc round) times t)
 
 -- ---- the rest of a round's takings, at some host
 
@@ -73,7 +73,7 @@ passed giving round h hosts times s none = ap (λ c. then_course c (all_takings 
 pub passes : {S : Type 0} (giving : Giving S) (round i times : ℕ) (hosts : List Host) (h : Host) (s : S) → i < length hosts → h ≡ get_or hosts i h → ((n : ℕ) → times ≡ suc n → giving.is_given s h ≡ false)
     → takings_from giving round (drop i hosts) times s ≡ takings_from giving round (drop (i + 1) hosts) 16 s
 passes giving round i times hosts h s lt is none =
-    ap (λ (hs : List Host). takings_from giving round hs times s) (drop_more hosts i h lt ∙ ap (λ (g : Host). g ∷ drop (i + 1) hosts) (sym is)) ∙ passed giving round h (drop (i + 1) hosts) times s none
+    ap (λ (hs : List Host). takings_from giving round hs times s) (drop_more hosts i h lt ∙ ap (λ (g : Host). g ∷ drop (i + 1) hosts) (sym is)) ∙ passed giving round h _ times s none
 
 pub takes_here : {S : Type 0} (giving : Giving S) (round i n times : ℕ) (hosts : List Host) (h : Host) (s : S) → i < length hosts → h ≡ get_or hosts i h → times ≡ suc n → giving.is_given s h ≡ true
     → takings_from giving round (drop i hosts) times s ≡ then_course (taking giving round h s) (λ c. takings_from giving round (drop i hosts) n c)

@@ -36,7 +36,7 @@ onto_all P each (suc k) n acc all = by (onto_all P each k (n / 10) (glyph n ∷ 
 
 pub decimal_lacks : (mark n : ℕ) → mark < 48 → Lacks mark (decimal n)
 unfolding digits
-decimal_lacks mark n low = onto_all (λ x. (x == mark) ≡ false) each 64 n [] (All-nil (λ x. (x == mark) ≡ false)) where
+decimal_lacks mark n low = onto_all _ each 64 n [] (All-nil (λ x. (x == mark) ≡ false)) where
   each : (m : ℕ) → (glyph m == mark) ≡ false
   each m = let is : glyph m ≡ 48 + m % 10 = glyph_is m in grind (arith, nat_tests)
 
@@ -74,13 +74,13 @@ last_digit : (m n : ℕ) → decimal m ≡ decimal n → m % 10 ≡ n % 10
 last_digit m n e =
     let one = decimal_ends m in
     let other = decimal_ends n in
-    let same : glyph m ≡ glyph n = last_same one.front other.front (glyph m) (glyph n) (sym one.is ∙ e ∙ other.is) in
+    let same : glyph m ≡ glyph n = last_same _ _ _ _ (sym one.is ∙ e ∙ other.is) in
     let digits : 48 + m % 10 ≡ 48 + n % 10 = sym (glyph_is m) ∙ same ∙ glyph_is n in
     omega (arith, digits)
 
 decimal_plain : (n : ℕ) → All (λ c. is_plain c ≡ true) (decimal n)
 unfolding digits
-decimal_plain n = onto_all (λ c. is_plain c ≡ true) each 64 n [] (All-nil (λ c. is_plain c ≡ true)) where
+decimal_plain n = onto_all _ each 64 n [] (All-nil (λ c. is_plain c ≡ true)) where
   plain : (c : ℕ) → 48 ≤ c → c < 58 → is_plain c ≡ true
   plain c low high =
       let a : (c == 34) ≡ false = grind (arith, nat_tests) in
@@ -95,7 +95,7 @@ decimal_plain n = onto_all (λ c. is_plain c ≡ true) each 64 n [] (All-nil (λ
   each m = plain (glyph m) (omega (arith, glyph_is m)) (omega (arith, glyph_is m))
 
 pub decimal_closed : (n : ℕ) → IsClosed (decimal n)
-decimal_closed n = plain_closed (decimal n) (λ e. let ends = decimal_ends n in not_empty ends.front (glyph n) (sym e ∙ ends.is)) (decimal_plain n)
+decimal_closed n = plain_closed _ (λ e. let ends = decimal_ends n in not_empty _ _ (sym e ∙ ends.is)) (decimal_plain n)
 
 -- short numbers are determined by their decimals
 pub short_once : (m n : ℕ) → IsShort m → IsShort n → decimal m ≡ decimal n → m ≡ n
@@ -114,10 +114,10 @@ digits_lack mark low (c ∷ word) h = by (λ k. digits_lack mark low word k) (is
   by more false e all = absurd (let bad : false ≡ true = rw e at all in cc)
 
 pub octets_lack : (mark : ℕ) → mark < 48 → (bits : List Bool) → Lacks mark (encode_upper (octets_of bits))
-octets_lack mark low bits = digits_lack mark low (encode_upper (octets_of bits)) (spelled_digits (octets_of bits) (octets_are_small bits))
+octets_lack mark low bits = digits_lack mark low _ (spelled_digits _ (octets_are_small bits))
 
 octets_count : (bits : List Bool) → 8 * length (octets_of bits) ≡ length bits + spare_bits (length bits)
-octets_count bits = sym (length-bits_of (octets_of bits)) ∙ ap length (bits_again bits) ∙ length-append bits (replicate (spare_bits (length bits)) false) ∙ ap (λ (n : ℕ). length bits + n) (length-replicate (spare_bits (length bits)) false)
+octets_count bits = sym (length-bits_of _) ∙ ap length (bits_again bits) ∙ length-append bits (replicate (spare_bits (length bits)) false) ∙ ap (λ (n : ℕ). length bits + n) (length-replicate (spare_bits (length bits)) false)
 
 octets_same : (a b : List Bool) → encode_upper (octets_of a) ≡ encode_upper (octets_of b) → octets_of a ≡ octets_of b
 octets_same a b e =
@@ -129,7 +129,7 @@ length_same a b size e =
     let n : ℕ = length (octets_of a) in
     let one : 8 * n ≡ length a + spare_bits (length a) = octets_count a in
     let other : 8 * n ≡ length b + spare_bits (length b) = ap (λ (os : List ℕ). 8 * length os) (octets_same a b e) ∙ octets_count b in
-    let last : length a % 10 ≡ length b % 10 = last_digit (length a) (length b) size in
+    let last : length a % 10 ≡ length b % 10 = last_digit _ _ size in
     omega (arith, one, other, last)
 
 -- how many bits there are, and their octets

@@ -1,6 +1,6 @@
 -- What a call of plain mailboxes did where memory did not run out.
 use Rattle.trace.proofs.Common.{◌≡◌, ◌⊎◌, inl, inr, subst, ◌||◌, Bool, true, false, List, Option, Some, None, Result, Ok, Err, ap, ◌∙◌, Host, is_halt, is_memory, NetEvent, Shown, GoesOn, Happens, IsOneCall, outcome_of, RawEvent}
-use Rattle.leader1822.specs.Boxes.{Boxes, BoxesDecided, host_refusal, inbound_taken, next_for, offer_refusal, offered, step_grows, step_refusal, stepped, take_grows, plain_calls}
+use Rattle.leader1822.specs.Boxes.{Boxes, BoxesDecided, host_refusal, inbound_taken, next_for, offer_refusal, offered, step_refusal, stepped, plain_calls}
 use Rattle.interface.specs.declared.CarrierFault.{CarrierFault}
 use Rattle.interface.specs.declared.CarrierFault.TheVariants as fault
 use Rattle.interface.specs.declared.Inbound.{Inbound}
@@ -57,9 +57,9 @@ step_left old new e (Ok done) w = inr w
 step_left old new e (Err f) w = inl w.1
 
 pub left_of : (old new : Boxes) (e : RawEvent) (shown : List Shown) → IsOneCall e → Happens plain_calls old e new shown → Left old new e
-left_of old new (event.Out m) shown one k = offer_left old new m k.outcome (went (offer_refusal old m.flow) true (λ done. new ≡ offered old m) old k.outcome new k.gives (goes_after k.outcome k.goes_on))
+left_of old new (event.Out m) shown one k = offer_left old new m _ (went _ true _ old _ new k.gives (goes_after _ k.goes_on))
 left_of old new (event.Take h) shown one k =
     let r : Result (Option Inbound) CarrierFault = k.gives.0 in
-    take_left old new h r (went (host_refusal old h) (take_grows old h) (λ o. (o ≡ next_for old h) × (new ≡ inbound_taken old h o)) old r new k.gives.1 (goes_after_take r (subst GoesOn k.gives.2 k.goes_on)))
-left_of old new (event.Net e) shown one k = step_left old new e k.outcome (went (step_refusal old e) (step_grows old e) (λ done. new ≡ stepped old e) old k.outcome new k.gives (goes_after k.outcome k.goes_on))
+    take_left old new h r (went _ _ _ old r new k.gives.1 (goes_after_take r (subst GoesOn k.gives.2 k.goes_on)))
+left_of old new (event.Net e) shown one k = step_left old new e _ (went _ _ _ old _ new k.gives (goes_after _ k.goes_on))
 left_of old new (event.Calm rounds) shown one k = absurd one

@@ -21,20 +21,20 @@ is_first (h ∷ others) = h.host == 0
 has_stopped : (new : Boxes) (lines : List (List ℕ)) → new.stopped ≡ false → MayTell plain_calls (opening_boxes hosts) stop new lines → new ≡ host_stopped (opening_boxes hosts) second
 has_stopped new lines running (m, none) =
     let gave : BoxesStep (opening_boxes hosts) (net.HostDown second) m.outcome new = subst (λ (e : RawEvent). EventGives plain_calls (opening_boxes hosts) e m.outcome new) m.begins m.gives in
-    (done true (λ finished. new ≡ host_stopped (opening_boxes hosts) second) (opening_boxes hosts) m.outcome new running gave).1
+    (done true _ _ _ new running gave).1
 
 pub row_processed : MayTell plain_calls (opening_boxes hosts) stop (host_stopped (opening_boxes hosts) second) []
 row_processed = (record { processed = stop.event; begins = refl; outcome = Ok tt; gives = (refl, refl); unknown = refl }, refl)
 
 pub row_nothing : MayTell plain_calls (opening_boxes hosts) stop (opening_boxes hosts) [] → ⊥
 row_nothing h =
-    let same : opening_boxes hosts ≡ host_stopped (opening_boxes hosts) second = has_stopped (opening_boxes hosts) [] refl h in
+    let same : opening_boxes hosts ≡ host_stopped (opening_boxes hosts) second = has_stopped _ [] refl h in
     let none : [] ≡ second ∷ [] = ap (λ (b : Boxes). b.down) same in
     absurd (cc)
 
 pub row_another : MayTell plain_calls (opening_boxes hosts) stop (host_stopped (opening_boxes hosts) first) [] → ⊥
 row_another h =
-    let same : host_stopped (opening_boxes hosts) first ≡ host_stopped (opening_boxes hosts) second = has_stopped (host_stopped (opening_boxes hosts) first) [] refl h in
+    let same : host_stopped (opening_boxes hosts) first ≡ host_stopped (opening_boxes hosts) second = has_stopped _ [] refl h in
     let other : true ≡ false = ap (λ (b : Boxes). is_first b.down) same in
     false≢true (sym other)
 

@@ -29,10 +29,10 @@ record IsSite (i : ImpHosts) : Type 0 where
   hosts : IsShort i.hosts
 
 site_spelled : Spelled site_text IsSite
-site_spelled = record { closed = λ i is. array_closed (decimal i.imp ∷ decimal i.hosts ∷ []) (two_closed i.imp i.hosts); once = once } where
+site_spelled = record { closed = λ i is. array_closed (decimal i.imp ∷ decimal i.hosts ∷ []) (two_closed i.imp _); once = once } where
   once : (i j : ImpHosts) → IsSite i → IsSite j → site_text i ≡ site_text j → i ≡ j
   once i j p q e =
-      let same = pair_once i.imp i.hosts j.imp j.hosts p.imp p.hosts q.imp q.hosts e in
+      let same = pair_once i.imp _ j.imp _ p.imp p.hosts q.imp q.hosts e in
       λ k. record { imp = same.first k; hosts = same.second k }
 
 record IsEnds (l : LineEnds) : Type 0 where
@@ -121,11 +121,11 @@ plain_all (c ∷ t) h = by (λ k. plain_all t k) (is_plain c) refl h where
   by more false e all = absurd (let bad : false ≡ true = rw e at all in cc)
 
 pub word_closed : (c : ℕ) (t : List ℕ) → list_all is_plain (c ∷ t) ≡ true → IsClosed (c ∷ t)
-word_closed c t plain = plain_closed (c ∷ t) (λ e. absurd (cc)) (plain_all (c ∷ t) plain)
+word_closed c t plain = plain_closed _ (λ e. absurd (cc)) (plain_all (c ∷ t) plain)
 
 raw_closed : (b : Bool) → IsClosed (bool_text b)
-raw_closed true = word_closed 116 (codes "rue") refl
-raw_closed false = word_closed 102 (codes "alse") refl
+raw_closed true = word_closed 116 _ refl
+raw_closed false = word_closed 102 _ refl
 
 -- ---- the line
 
@@ -151,25 +151,26 @@ of_lines t = member (codes "lines") (array (map ends_text t.lines))
 abbrev of_parts : List ℕ → List ℕ
 of_parts p = member (codes "parts") p
 
-pub network : (t u : TopologyFields) (p q : List ℕ) → IsTopology t → IsTopology u → opening_line t p ≡ opening_line u q → t ≡ u
-network t u p q is are e =
+pub network : (t u : TopologyFields) (p q : List ℕ) → IsTopology t → IsTopology u → t.strangers ≡ u.strangers
+    → opening_line t p ≡ opening_line u q → t ≡ u
+network t u p q is are same_strangers e =
     let ti = and_parts _ _ (and_parts _ _ is.imps).1 in
     let ui = and_parts _ _ (and_parts _ _ are.imps).1 in
     let tl = and_parts _ _ (and_parts _ _ is.lines).0 in
     let ul = and_parts _ _ (and_parts _ _ are.lines).0 in
-    let form = cut (codes "trace") (codes "3") (codes "3") (of_raw t ∷ of_imps t ∷ of_lines t ∷ of_parts p ∷ []) (of_raw u ∷ of_imps u ∷ of_lines u ∷ of_parts q ∷ []) (of_carrier t) (of_carrier u) (unmarked_where 34 (codes "trace") refl) (word_closed 51 [] refl) (word_closed 51 [] refl) (rest_same e) in
-    let carriers = cut (codes "carrier") (quoted (carrier_word t.carrier)) (quoted (carrier_word u.carrier)) (of_imps t ∷ of_lines t ∷ of_parts p ∷ []) (of_imps u ∷ of_lines u ∷ of_parts q ∷ []) (of_raw t) (of_raw u) (unmarked_where 34 (codes "carrier") refl) (string_closed (carrier_word t.carrier) (carrier_plain t.carrier)) (string_closed (carrier_word u.carrier) (carrier_plain u.carrier)) form.back in
-    let raws = cut (codes "raw") (bool_text t.raw) (bool_text u.raw) (of_lines t ∷ of_parts p ∷ []) (of_lines u ∷ of_parts q ∷ []) (of_imps t) (of_imps u) (unmarked_where 34 (codes "raw") refl) (raw_closed t.raw) (raw_closed u.raw) carriers.back in
+    let form = cut (codes "trace") _ _ (of_raw t ∷ of_imps t ∷ of_lines t ∷ of_parts p ∷ []) (of_raw u ∷ of_imps u ∷ of_lines u ∷ of_parts q ∷ []) (of_carrier t) (of_carrier u) (unmarked_where 34 (codes "trace") refl) (word_closed 51 [] refl) (word_closed 51 [] refl) (rest_same e) in
+    let carriers = cut (codes "carrier") _ _ (of_imps t ∷ of_lines t ∷ of_parts p ∷ []) (of_imps u ∷ of_lines u ∷ of_parts q ∷ []) (of_raw t) (of_raw u) (unmarked_where 34 (codes "carrier") refl) (string_closed _ (carrier_plain _)) (string_closed _ (carrier_plain _)) form.back in
+    let raws = cut (codes "raw") _ _ (of_lines t ∷ of_parts p ∷ []) (of_lines u ∷ of_parts q ∷ []) (of_imps t) (of_imps u) (unmarked_where 34 (codes "raw") refl) (raw_closed t.raw) (raw_closed u.raw) carriers.back in
     let sites = lists_spelled site_text IsSite site_spelled in
     let ends = lists_spelled ends_text IsEnds ends_spelled in
     let ts = sites_are t.imps ti.1 in
     let us = sites_are u.imps ui.1 in
-    let te = lines_are t.imps t.lines ti.1 tl.0 in
-    let ue = lines_are u.imps u.lines ui.1 ul.0 in
-    let imps = cut (codes "imps") (array (map site_text t.imps)) (array (map site_text u.imps)) (of_parts p ∷ []) (of_parts q ∷ []) (of_lines t) (of_lines u) (unmarked_where 34 (codes "imps") refl) (sites.closed t.imps ts) (sites.closed u.imps us) raws.back in
-    let lines = cut (codes "lines") (array (map ends_text t.lines)) (array (map ends_text u.lines)) [] [] (of_parts p) (of_parts q) (unmarked_where 34 (codes "lines") refl) (ends.closed t.lines te) (ends.closed u.lines ue) imps.back in
-    let carrier : t.carrier ≡ u.carrier = sym (carrier_again t.carrier) ∙ ap carrier_in (quoted_once (carrier_word t.carrier) (carrier_word u.carrier) carriers.front) ∙ carrier_again u.carrier in
+    let te = lines_are t.imps _ ti.1 tl.0 in
+    let ue = lines_are u.imps _ ui.1 ul.0 in
+    let imps = cut (codes "imps") _ _ (of_parts p ∷ []) (of_parts q ∷ []) (of_lines t) (of_lines u) (unmarked_where 34 (codes "imps") refl) (sites.closed t.imps ts) (sites.closed u.imps us) raws.back in
+    let lines = cut (codes "lines") _ _ [] [] (of_parts p) (of_parts q) (unmarked_where 34 (codes "lines") refl) (ends.closed t.lines te) (ends.closed u.lines ue) imps.back in
+    let carrier : t.carrier ≡ u.carrier = sym (carrier_again _) ∙ ap carrier_in (quoted_once _ _ carriers.front) ∙ carrier_again _ in
     let raw : t.raw ≡ u.raw = sym (raw_again t.raw) ∙ ap raw_in raws.front ∙ raw_again u.raw in
     let same_imps : t.imps ≡ u.imps = sites.once t.imps u.imps ts us imps.front in
     let same_lines : t.lines ≡ u.lines = ends.once t.lines u.lines te ue lines.front in
-    λ k. record { carrier = carrier k; raw = raw k; imps = same_imps k; lines = same_lines k }
+    λ k. record { carrier = carrier k; raw = raw k; imps = same_imps k; lines = same_lines k; strangers = same_strangers k }

@@ -39,7 +39,7 @@ replays_more calls old mid new (x ∷ xs) ys shown more (next, first, rest, h, h
 pub run_then : {C : Type 0} (calls : Calls C) (old mid new : C) (xs ys : List RawEvent) → Run calls old xs mid → Run calls mid ys new → Run calls old (xs ++ ys) new
 run_then calls old mid new xs ys h k = record {
   crossings = h.crossings ++ k.crossings;
-  replays = subst (λ (s : List Shown). Replays calls old (xs ++ ys) new s) (sym (shown_more h.crossings k.crossings)) (replays_more calls old mid new xs ys (shown_crossings h.crossings) (shown_crossings k.crossings) h.replays k.replays);
+  replays = subst (λ (s : List Shown). Replays calls old (xs ++ ys) new s) (sym (shown_more _ _)) (replays_more calls old mid new xs ys _ _ h.replays k.replays);
   grown = k.grown ∙ ap (λ log. reverse k.crossings ++ log) h.grown ∙ sym (append_assoc (reverse k.crossings) (reverse h.crossings) (calls.seen old).log) ∙ ap (λ cs. cs ++ (calls.seen old).log) (sym (reverse-append h.crossings k.crossings));
 }
 
@@ -67,7 +67,7 @@ pub record Goes {C S : Type 0} (x : Traced C S) (old : C) (c : Course S) (r : Re
   pub run : Run x.calls old (events_of c.elements) new
 
 pub goes_none : {C S : Type 0} (x : Traced C S) (old : C) (r : Result (Unit {0}) CarrierFault) (new : C) → x.Holds old → r ≡ Ok tt → new ≡ old → Goes x old (no_course (x.view old)) r new
-goes_none {C} x old r new holds ok same = record { ok = ok; left = ap x.view same; holds = subst x.Holds (sym same) holds; run = subst (λ (b : C). Run x.calls old [] b) (sym same) (run_none x.calls old) }
+goes_none {C} x old r new holds ok same = record { ok = ok; left = ap x.view same; holds = subst x.Holds (sym same) holds; run = subst (λ (b : C). Run x.calls old [] b) (sym same) (run_none _ old) }
 
 pub goes_then : {C S : Type 0} (x : Traced C S) (old mid new : C) (first : Course S) (next : S → Course S) (q r : Result (Unit {0}) CarrierFault) → Goes x old first q mid → Goes x mid (next (x.view mid)) r new → Goes x old (then_course first next) r new
 goes_then x old mid new first next q r h k = record {
@@ -76,7 +76,7 @@ goes_then x old mid new first next q r h k = record {
   holds = k.holds;
   run = subst (λ (es : List RawEvent). Run x.calls old es new)
       (ap (λ b. events_of first.elements ++ events_of (next b).elements) h.left ∙ sym (map-append (λ y. y.event) first.elements (next first.left).elements))
-      (run_then x.calls old mid new (events_of first.elements) (events_of (next (x.view mid)).elements) h.run k.run);
+      (run_then _ old mid new _ _ h.run k.run);
 }
 
 -- one part, and then the next
@@ -86,7 +86,7 @@ pub goes_chain : {C S : Type 0} (x : Traced C S) (First Next : Part C) (first : 
     → (q : Result (Unit {0}) CarrierFault) (mid : C) → First old q mid → Onward Next q mid r new → GoesOn r → Goes x old (then_course first next) r new
 goes_chain x First Next first next old new r one more (Ok done) mid h k goes =
     let g : Goes x old first (Ok done) mid = one (Ok done) mid h tt in
-    goes_then x old mid new first next (Ok done) r g (more (Ok done) mid g k goes)
+    goes_then x old mid new first next _ r g (more (Ok done) mid g k goes)
 goes_chain x First Next first next old new r one more (Err f) mid h k goes =
     let bad : Err f ≡ Ok tt = (one (Err f) mid h (subst GoesOn k.0 goes)).ok in absurd (cc)
 
@@ -118,21 +118,21 @@ goes_takings {C} {S} x takes round h (suc times) old r new holds (answer, mid, t
     -- where nothing was given
     ends : (q : Result (Unit {0}) CarrierFault) → q ≡ Ok tt → (x.giving.is_given (x.view old) h ≡ false) × (mid ≡ old) → (r ≡ q) × (new ≡ mid) → Goes x old (takings x.giving round h (suc times) (x.view old)) r new
     ends q calm none k =
-        subst (λ (c : Course S). Goes x old c r new) (sym (none_given x.giving round h times (x.view old) none.0)) (goes_none x old r new holds (k.0 ∙ calm) (k.1 ∙ none.1))
+        subst (λ (c : Course S). Goes x old c r new) (sym (none_given x.giving round h times _ none.0)) (goes_none x old r new holds (k.0 ∙ calm) (k.1 ∙ none.1))
 
     by : (x.Holds mid → Takings x.calls h times mid r new → Goes x mid (takings x.giving round h times (x.view mid)) r new) → (a : Result (Option Inbound) CarrierFault) → x.calls.takes old h a mid → IfGiven a (Takings x.calls h times mid r new) ((r ≡ calmly (outcome_of a)) × (new ≡ mid)) → Goes x old (takings x.giving round h (suc times) (x.view old)) r new
     by more (Ok (Some i)) t k =
         let one = takes old h (Ok (Some i)) mid holds t tt in
         let first : Goes x old (taking x.giving round h (x.view old)) (Ok tt) mid = one.1 round in
-        subst (λ (c : Course S). Goes x old c r new) (sym (one_given x.giving round h times (x.view old) one.0))
-        (goes_then x old mid new (taking x.giving round h (x.view old)) (takings x.giving round h times) (Ok tt) r first (more first.holds k))
+        subst (λ (c : Course S). Goes x old c r new) (sym (one_given x.giving round h times _ one.0))
+        (goes_then x old mid new _ (takings x.giving round h times) _ r first (more first.holds k))
     by more (Ok None) t k = ends (Ok tt) refl (takes old h (Ok None) mid holds t tt) k
     by more (Err f) t k = ends (calmly (Err f)) (calm_is f (goes_calmly f (subst GoesOn k.0 goes))) (takes old h (Err f) mid holds t (subst GoesOn k.0 goes)) k
 
 pub goes_all : {C S : Type 0} (x : Traced C S) → AllTakeSo x → (round : ℕ) (hosts : List Host) (old : C) (r : Result (Unit {0}) CarrierFault) (new : C) → x.Holds old → AllTake x.calls hosts old r new → GoesOn r → Goes x old (all_takings x.giving round hosts (x.view old)) r new
 goes_all x takes round [] old r new holds k goes = goes_none x old r new holds k.0 k.1
 goes_all x takes round (h ∷ hosts) old r new holds (q, mid, first, more) goes =
-    goes_chain x (Takings x.calls h 16) (AllTake x.calls hosts) (takings x.giving round h 16 (x.view old)) (all_takings x.giving round hosts) old new r
+    goes_chain x (Takings x.calls h 16) _ _ (all_takings x.giving round hosts) old new r
     (λ q mid k g. goes_takings x takes round h 16 old q mid holds k g) (λ q mid m k g. goes_all x takes round hosts mid r new m.holds k g) q mid first more goes
 
 -- ---- rounds and events
@@ -143,7 +143,7 @@ AllRoundsGo {C} {S} x whole = (round : ℕ) (old : C) (r : Result (Unit {0}) Car
 goes_rounds : {C S : Type 0} (x : Traced C S) (whole : ℕ → S → Course S) → AllRoundsGo x whole → (round times : ℕ) (old : C) (r : Result (Unit {0}) CarrierFault) (new : C) → x.Holds old → Rounds x.calls times old r new → GoesOn r → Goes x old (rounds_from whole round times (x.view old)) r new
 goes_rounds x whole each round zero old r new holds k goes = goes_none x old r new holds k.0 k.1
 goes_rounds x whole each round (suc times) old r new holds (q, mid, first, more) goes =
-    goes_chain x (Round x.calls) (Rounds x.calls times) (whole round (x.view old)) (rounds_from whole (suc round) times) old new r
+    goes_chain x (Round x.calls) _ _ (rounds_from whole (suc round) times) old new r
     (λ q mid k g. each round old q mid holds k g) (λ q mid m k g. goes_rounds x whole each (suc round) times mid r new m.holds k g) q mid first more goes
 
 itself : {C : Type 0} (calls : Calls C) (old new : C) (e : RawEvent) (shown : List Shown) → Happens calls old e new shown → Replays calls old (e ∷ []) new shown
@@ -153,13 +153,13 @@ itself calls old new e shown k = (new, shown, [], k, (refl, refl), sym (append-n
 pub elementary_of : {C S : Type 0} (x : Traced C S) (whole : ℕ → S → Course S) → AllRoundsGo x whole → (old new : C) (e : RawEvent) (shown : List Shown) → x.Holds old → Happens x.calls old e new shown
     → Replays x.calls old (events_of (elements_in (λ rounds. (rounds_from whole 1 rounds (x.view old)).elements) e)) new shown
 elementary_of x whole each old new (event.Calm rounds) shown holds k =
-    let goes : Goes x old (rounds_from whole 1 rounds (x.view old)) k.outcome new = goes_rounds x whole each 1 rounds old k.outcome new holds k.gives k.goes_on in
-    let crossings : goes.run.crossings ≡ k.crossings = crossings_are goes.run.crossings k.crossings (x.calls.seen old).log (x.calls.seen new).log goes.run.grown k.grown in
+    let goes : Goes x old (rounds_from whole 1 rounds (x.view old)) k.outcome new = goes_rounds x whole each 1 rounds old _ new holds k.gives k.goes_on in
+    let crossings : goes.run.crossings ≡ k.crossings = crossings_are _ _ _ _ goes.run.grown k.grown in
     let lines : shown_crossings goes.run.crossings ≡ shown =
     ap shown_crossings crossings ∙ sym (append-nil (shown_crossings k.crossings)) ∙ ap (λ r. shown_crossings k.crossings ++ shown_refusal r) (sym goes.ok) ∙ sym k.lines in
     subst (λ (s : List Shown). Replays x.calls old (events_of (rounds_from whole 1 rounds (x.view old)).elements) new s) lines goes.run.replays
-elementary_of x whole each old new c shown holds k = itself x.calls old new c shown k
+elementary_of x whole each old new c shown holds k = itself _ old new c shown k
 
 -- what holds all the while holds after a calm
 pub calm_holds : {C S : Type 0} (x : Traced C S) (whole : ℕ → S → Course S) → AllRoundsGo x whole → (old new : C) (rounds : ℕ) (shown : List Shown) → x.Holds old → Happens x.calls old (event.Calm rounds) new shown → x.Holds new
-calm_holds x whole each old new rounds shown holds k = (goes_rounds x whole each 1 rounds old k.outcome new holds k.gives k.goes_on).holds
+calm_holds x whole each old new rounds shown holds k = (goes_rounds x whole each 1 rounds old _ new holds k.gives k.goes_on).holds

@@ -7,7 +7,7 @@ use Rattle.interface.specs.declared.carrier.CarrierFault.{CarrierFault}
 use Rattle.replay.specs.Output.{Crossed, Refused, Shown, shown_crossings, shown_refusal, shown_text}
 use Rattle.script.specs.Spelling.{spelling}
 use Rattle.trace.specs.Joined.{comma_before, fate_text, head_text, joined_from, network_front, outcome_text, refused_text}
-use Rattle.trace.specs.Texts.{array, bool_text, carrier_word, crossing_object, ends_text, fate_word, further, listed, member, object, opening_line, quoted, site_text, strings, trace_line}
+use Rattle.trace.specs.Texts.{array, crossing_object, ends_text, fate_word, further, listed, member, object, opening_line, quoted, site_text, strings, trace_line}
 
 -- one more item
 pub joined_more : (place : ℕ) (xs : List (List ℕ)) (x : List ℕ) → joined_from place (xs ++ x ∷ []) ≡ joined_from place xs ++ (comma_before (place + length xs) ++ x)
@@ -15,13 +15,13 @@ joined_more place [] x = ap (λ (n : ℕ). comma_before n ++ (x ++ [])) (omega a
 joined_more place (y ∷ xs) x =
     let sums : suc place + length xs ≡ place + suc (length xs) = omega arith in
     ap (λ zs. comma_before place ++ (y ++ zs)) (joined_more (suc place) xs x ∙ ap (λ (n : ℕ). joined_from (suc place) xs ++ (comma_before n ++ x)) sums)
-    ∙ ap (λ zs. comma_before place ++ zs) (sym (append_assoc y (joined_from (suc place) xs) (comma_before (place + suc (length xs)) ++ x)))
-    ∙ sym (append_assoc (comma_before place) (y ++ joined_from (suc place) xs) (comma_before (place + suc (length xs)) ++ x))
+    ∙ ap (λ zs. comma_before place ++ zs) (sym (append_assoc y (joined_from _ xs) (comma_before (place + suc (length xs)) ++ x)))
+    ∙ sym (append_assoc (comma_before place) (y ++ joined_from _ xs) (comma_before (place + suc (length xs)) ++ x))
 
 -- with the end they are the list
 further_joined : (end : List ℕ) (place : ℕ) (xs : List (List ℕ)) → further end xs ≡ joined_from (suc place) xs ++ end
 further_joined end place [] = refl
-further_joined end place (x ∷ xs) = ap (λ zs. codes "," ++ (x ++ zs)) (further_joined end (suc place) xs) ∙ ap (λ zs. codes "," ++ zs) (sym (append_assoc x (joined_from (suc (suc place)) xs) end))
+further_joined end place (x ∷ xs) = ap (λ zs. codes "," ++ (x ++ zs)) (further_joined end (suc place) xs) ∙ ap (λ zs. codes "," ++ zs) (sym (append_assoc x (joined_from _ xs) end))
 
 pub listed_joined : (end : List ℕ) (xs : List (List ℕ)) → listed end xs ≡ joined_from 0 xs ++ end
 listed_joined end [] = refl
@@ -83,11 +83,11 @@ pub shown_printed : (cs : List Crossing) (r : Result (Unit {0}) CarrierFault) (i
     → Appends b c (refused_text (length cs) r) → Appends c d (codes "]") → Appends a d (strings (map (shown_text Sizes) (shown_crossings cs ++ shown_refusal r)))
 shown_printed cs (Ok done) i a b c d is before none end =
     let past : length (shown_crossings cs ++ []) ≤ i = omega (arith, how_many cs [], is) in
-    all_printed (shown_text Sizes) (shown_crossings cs ++ []) i a b d past before (appends_more b c d [] (codes "]") none end)
+    all_printed _ _ i a b d past before (appends_more b c d [] (codes "]") none end)
 shown_printed cs (Err f) i a b c d is before refused end =
     let past : length (shown_crossings cs ++ Refused f ∷ []) ≤ length cs + 1 = omega (arith, how_many cs (Refused f ∷ [])) in
     let here : Appends a b (fronts (shown_text Sizes) (length cs) (shown_crossings cs ++ Refused f ∷ [])) = subst (λ (n : ℕ). Appends a b (fronts (shown_text Sizes) n (shown_crossings cs ++ Refused f ∷ []))) is before in
-    all_printed (shown_text Sizes) (shown_crossings cs ++ Refused f ∷ []) (length cs + 1) a c d past (one_behind (shown_text Sizes) (shown_crossings cs ++ Refused f ∷ []) (length cs) (Refused f) a b c (refused_at cs (Refused f)) here refused) end
+    all_printed _ _ _ a c d past (one_behind _ _ _ _ a b c (refused_at cs _) here refused) end
 
 -- ---- a line
 
@@ -133,11 +133,11 @@ fated_line line number round event fate crossed printed parts =
 pub line_is : (spot : Spot) (round : ℕ) (e : RawEvent) (fate : Option Fate) (cs : List Crossing) (r : Result (Unit {0}) CarrierFault) (parts : List ℕ)
     → head_text spot round e ++ (fate_text fate ++ (outcome_text cs r ++ (codes ",\"parts\":" ++ (parts ++ codes "}\n")))) ≡ ended_line (trace_line spot (record { round = round; event = e }) fate (shown_crossings cs ++ shown_refusal r) parts)
 line_is spot round e None cs r parts =
-    plain_line (decimal spot.line) (decimal spot.number) (decimal round) (spelling e) (array (map crossing_object cs)) (strings (map (shown_text Sizes) (shown_crossings cs ++ shown_refusal r))) parts
+    plain_line _ _ _ _ (array (map crossing_object cs)) (strings (map (shown_text Sizes) (shown_crossings cs ++ shown_refusal r))) parts
     ∙ ap (λ (crossed : List Crossing). ended_line (object (member (codes "line") (decimal spot.line) ∷ member (codes "number") (decimal spot.number) ∷ member (codes "round") (decimal round) ∷ member (codes "event") (quoted (spelling e))
     ∷ member (codes "crossed") (array (map crossing_object crossed)) ∷ member (codes "printed") (strings (map (shown_text Sizes) (shown_crossings cs ++ shown_refusal r))) ∷ member (codes "parts") parts ∷ []))) (sym (crossings_shown cs r))
 line_is spot round e (Some f) cs r parts =
-    fated_line (decimal spot.line) (decimal spot.number) (decimal round) (spelling e) (fate_word f) (array (map crossing_object cs)) (strings (map (shown_text Sizes) (shown_crossings cs ++ shown_refusal r))) parts
+    fated_line _ _ _ _ _ (array (map crossing_object cs)) (strings (map (shown_text Sizes) (shown_crossings cs ++ shown_refusal r))) parts
     ∙ ap (λ (crossed : List Crossing). ended_line (object (member (codes "line") (decimal spot.line) ∷ member (codes "number") (decimal spot.number) ∷ member (codes "round") (decimal round) ∷ member (codes "event") (quoted (spelling e))
     ∷ member (codes "fate") (quoted (fate_word f)) ∷ member (codes "crossed") (array (map crossing_object crossed)) ∷ member (codes "printed") (strings (map (shown_text Sizes) (shown_crossings cs ++ shown_refusal r))) ∷ member (codes "parts") parts ∷ []))) (sym (crossings_shown cs r))
 
@@ -145,7 +145,7 @@ line_is spot round e (Some f) cs r parts =
 
 -- after its beginning come the parts and the end
 pub opening_is : (t : TopologyFields) (parts : List ℕ) → network_front t ++ (parts ++ codes "}\n") ≡ ended_line (opening_line t parts)
-opening_is t parts = whole (carrier_word t.carrier) (bool_text t.raw) (array (map site_text t.imps)) (array (map ends_text t.lines)) where
+opening_is t parts = whole _ _ (array (map site_text t.imps)) (array (map ends_text t.lines)) where
   ended : (front : List ℕ) → front ++ (parts ++ codes "}\n") ≡ (front ++ (parts ++ codes "}")) ++ 10 ∷ []
   ended front = simp append_assoc
 

@@ -25,8 +25,8 @@ more_printed x rest whole a b c remains printed = λ last more. remains last (ap
 pub next_printed : (begin end x : List ℕ) (xs : List (List ℕ)) (place : ℕ) (whole : List ℕ) (a b c d : Option (List ℕ))
     → Remains a b (left begin end place (x ∷ xs)) whole → Appends b c (mark begin (codes ",") place) → Appends c d x → Remains a d (left begin end (suc place) xs) whole
 next_printed begin end x xs place whole a b c d remains first item =
-    more_printed x (left begin end (suc place) xs) whole a c d
-    (more_printed (mark begin (codes ",") place) (x ++ left begin end (suc place) xs) whole a b c (subst (λ zs. Remains a b zs whole) (left_next begin end place x xs) remains) first) item
+    more_printed x _ whole a c d
+    (more_printed _ _ whole a b c (subst (λ zs. Remains a b zs whole) (left_next begin end place x xs) remains) first) item
 
 -- the item at a place is printed
 pub item_printed : (begin end : List ℕ) (xs : List (List ℕ)) (i : ℕ) (whole : List ℕ) (a b c d : Option (List ℕ)) → i < length xs
@@ -34,7 +34,7 @@ pub item_printed : (begin end : List ℕ) (xs : List (List ℕ)) (i : ℕ) (whol
 item_printed begin end xs i whole a b c d lt remains first item =
     let here : Remains a b (left begin end i (slice_index_or xs i [] ∷ drop (i + 1) xs)) whole = subst (λ zs. Remains a b (left begin end i zs) whole) (drop_more xs i [] lt) remains in
     let sums : suc i ≡ i + 1 = omega arith in
-    subst (λ (n : ℕ). Remains a d (left begin end n (drop (i + 1) xs)) whole) sums (next_printed begin end (slice_index_or xs i []) (drop (i + 1) xs) i whole a b c d here first item)
+    subst (λ (n : ℕ). Remains a d (left begin end n (drop (i + 1) xs)) whole) sums (next_printed begin end _ _ i whole a b c d here first item)
 
 -- an item is printed that may not be in the list
 pub maybe_printed : (begin end : List ℕ) (there : Bool) (x : List ℕ) (xs : List (List ℕ)) (place : ℕ) (whole : List ℕ) (a b c : Option (List ℕ))
@@ -43,8 +43,8 @@ pub maybe_printed : (begin end : List ℕ) (there : Bool) (x : List ℕ) (xs : L
 maybe_printed begin end true x xs place whole a b c remains printed =
     let next : left begin end place (x ∷ xs) ≡ (mark begin (codes ",") place ++ x) ++ further end xs =
     left_next begin end place x xs ∙ sym (append_assoc (mark begin (codes ",") place) x (further end xs)) in
-    more_printed (mark begin (codes ",") place ++ x) (further end xs) whole a b c (subst (λ zs. Remains a b zs whole) next remains) printed
-maybe_printed begin end false x xs place whole a b c remains printed = more_printed [] (left begin end place xs) whole a b c remains printed
+    more_printed _ _ whole a b c (subst (λ zs. Remains a b zs whole) next remains) printed
+maybe_printed begin end false x xs place whole a b c remains printed = more_printed [] _ whole a b c remains printed
 
 -- after the last item the end is left
 pub left_end : (begin end : List ℕ) (place : ℕ) → left begin end place [] ≡ mark (begin ++ end) end place

@@ -1,5 +1,5 @@
 -- Hosts, flows, bits, messages and answers have texts of their own.
-use Rattle.trace.proofs.Common.{◌≡◌, ℕ, ◌<◌, ◌≤◌, ◌==◌, Bool, false, List, [], ◌∷◌, ◌++◌, codes, if◌then◌else◌, length, map, refl, sym, ap, ◌∙◌, arith, lit<, nat_tests, All-append, All-cons, decimal, All, bytes_eq, encode_upper, octets_of, WaitingAnswer, Host, host_text, Flow, Lacks, SameCut, same_cut, unmarked_where, IsFlowNamed, IsHostNamed}
+use Rattle.trace.proofs.Common.{◌≡◌, ℕ, ◌<◌, ◌≤◌, ◌==◌, Bool, false, List, [], ◌∷◌, ◌++◌, codes, if◌then◌else◌, length, map, refl, sym, ap, ◌∙◌, arith, lit<, nat_tests, All-append, All-cons, decimal, All, bytes_eq, WaitingAnswer, Host, host_text, Flow, Lacks, SameCut, same_cut, unmarked_where, IsFlowNamed, IsHostNamed}
 use Rattle.interface.specs.declared.crossing.Answer.{Answer}
 use Rattle.interface.specs.declared.crossing.Answer.TheVariants as answer
 use Rattle.interface.specs.declared.message.HostMessage.{HostMessage}
@@ -37,7 +37,7 @@ host_named h is =
 -- ---- flows
 
 pub flow_named : (f : Flow) → IsFlow f → IsFlowNamed f
-flow_named f is = let link : f.link.0 < 256 = is.2 in record { source = host_named f.source is.0; destination = host_named f.destination is.1; link = omega (arith, link) }
+flow_named f is = let link : f.link.0 < 256 = is.2 in record { source = host_named _ is.0; destination = host_named _ is.1; link = omega (arith, link) }
 
 -- two values are the same, and so is what follows their members
 pub record SameThen {X : Type 0} (x y : X) (r s : List (List ℕ)) : Type 0 where
@@ -52,9 +52,9 @@ flow_closed f is more =
 
 pub flow_same : (f g : Flow) (r s : List (List ℕ)) → IsFlowNamed f → IsFlowNamed g → flow_members f ++ r ≡ flow_members g ++ s → SameThen f g r s
 flow_same f g r s p q e =
-    let source : f.source ≡ g.source = host_spelled.once f.source g.source p.source q.source (member_once (codes "from") (host_string f.source) (host_string g.source) (first_same e)) in
-    let destination : f.destination ≡ g.destination = host_spelled.once f.destination g.destination p.destination q.destination (member_once (codes "to") (host_string f.destination) (host_string g.destination) (first_same (rest_same e))) in
-    let link : f.link.0 ≡ g.link.0 = short_once f.link.0 g.link.0 p.link q.link (member_once (codes "link") (decimal f.link.0) (decimal g.link.0) (first_same (rest_same (rest_same e)))) in
+    let source : f.source ≡ g.source = host_spelled.once f.source g.source p.source q.source (member_once (codes "from") _ _ (first_same e)) in
+    let destination : f.destination ≡ g.destination = host_spelled.once f.destination g.destination p.destination q.destination (member_once (codes "to") _ _ (first_same (rest_same e))) in
+    let link : f.link.0 ≡ g.link.0 = short_once _ _ p.link q.link (member_once (codes "link") _ _ (first_same (rest_same (rest_same e)))) in
     record { first = λ i. record { source = source i; destination = destination i; link = record { 0 = link i } }; behind = rest_same (rest_same (rest_same e)) }
 
 -- ---- bits
@@ -62,12 +62,12 @@ flow_same f g r s p q e =
 pub bits_closed : (bits : List Bool) → AreClosed (bits_members bits)
 bits_closed bits =
     also_closed (codes "bits") refl (decimal_closed (length bits))
-    (also_closed (codes "octets") refl (string_closed (encode_upper (octets_of bits)) (octets_lack 34 (lit< tt) bits)) none_closed)
+    (also_closed (codes "octets") refl (string_closed _ (octets_lack 34 (lit< tt) bits)) none_closed)
 
 pub bits_same : (a b : List Bool) → bits_members a ≡ bits_members b → a ≡ b
 bits_same a b e =
-    sized_once a b (member_once (codes "bits") (decimal (length a)) (decimal (length b)) (first_same e))
-    (quoted_once (encode_upper (octets_of a)) (encode_upper (octets_of b)) (member_once (codes "octets") (quoted (encode_upper (octets_of a))) (quoted (encode_upper (octets_of b))) (first_same (rest_same e))))
+    sized_once a b (member_once (codes "bits") _ _ (first_same e))
+    (quoted_once _ _ (member_once (codes "octets") _ _ (first_same (rest_same e))))
 
 -- ---- messages
 
@@ -76,8 +76,8 @@ IsMessageNamed m = IsFlowNamed m.flow
 
 message_once : (m n : HostMessage) → IsMessageNamed m → IsMessageNamed n → message_object m ≡ message_object n → m ≡ n
 message_once m n p q e =
-    let all = object_once (flow_members m.flow ++ bits_members m.text) (flow_members n.flow ++ bits_members n.text) (flow_closed m.flow p (bits_closed m.text)).all (flow_closed n.flow q (bits_closed n.text)).all e in
-    let flows = flow_same m.flow n.flow (bits_members m.text) (bits_members n.text) p q all in
+    let all = object_once _ _ (flow_closed m.flow p (bits_closed m.text)).all (flow_closed n.flow q (bits_closed n.text)).all e in
+    let flows = flow_same m.flow n.flow _ _ p q all in
     let text : m.text ≡ n.text = bits_same m.text n.text flows.behind in
     λ i. record { flow = flows.first i; text = text i }
 
@@ -111,12 +111,12 @@ abbrev answer_members : WaitingAnswer → List (List ℕ)
 answer_members a = member (codes "kind") (quoted (answer_word a.0)) ∷ flow_members a.1
 
 answer_closed : (a : WaitingAnswer) → IsAnswerNamed a → AreClosed (answer_members a)
-answer_closed a is = also_closed (codes "kind") refl (string_closed (answer_word a.0) (word_plain a.0)) (flow_closed a.1 is none_closed)
+answer_closed a is = also_closed (codes "kind") refl (string_closed _ (word_plain a.0)) (flow_closed a.1 is none_closed)
 
 answer_once : (a b : WaitingAnswer) → IsAnswerNamed a → IsAnswerNamed b → answer_object a ≡ answer_object b → a ≡ b
 answer_once a b p q e =
-    let all = object_once (answer_members a) (answer_members b) (answer_closed a p).all (answer_closed b q).all e in
-    let word : answer_word a.0 ≡ answer_word b.0 = quoted_once (answer_word a.0) (answer_word b.0) (member_once (codes "kind") (quoted (answer_word a.0)) (quoted (answer_word b.0)) (first_same all)) in
+    let all = object_once _ _ (answer_closed a p).all (answer_closed b q).all e in
+    let word : answer_word a.0 ≡ answer_word b.0 = quoted_once _ _ (member_once (codes "kind") _ _ (first_same all)) in
     let kind : a.0 ≡ b.0 = sym (answer_again a.0) ∙ ap answer_in_word word ∙ answer_again b.0 in
     let flows = flow_same a.1 b.1 [] [] p q (rest_same all) in
     λ i. (kind i, flows.first i)

@@ -23,4 +23,4 @@ pub bool_spelled : Spelled bool_text Any
 bool_spelled = record { closed = closed; once = λ b c p q e. sym (bool_again b) ∙ ap is_true_word e ∙ bool_again c } where
   closed : (b : Bool) → Any b → IsClosed (bool_text b)
   closed true any = word_closed 116 (codes "rue") refl
-  closed false any = word_closed 102 (codes "alse") refl
+  closed false any = word_closed 102 _ refl

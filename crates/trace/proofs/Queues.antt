@@ -1,6 +1,6 @@
 -- One queue changes, and no other does.
 use Rattle.trace.proofs.Common.{eqb-true, false≢true, and_parts, All-append, All-cons, All-nil, All-same, All-tail, All, AreQueues}
-use Rattle.std.proofs.Common.{◌≡◌, ◌≢◌, ℕ, ◌==◌, ◌&&◌, Bool, true, false, List, [], ◌∷◌, ◌++◌, Option, Some, None, unwrap_or, cond, if◌then◌else◌, refl, sym, ap, subst, ◌∙◌, eq-eqb}
+use Rattle.std.proofs.Common.{◌≡◌, ◌≢◌, ℕ, ◌==◌, ◌&&◌, Bool, true, false, List, [], ◌∷◌, Option, Some, None, unwrap_or, cond, if◌then◌else◌, refl, sym, ap, subst, ◌∙◌, eq-eqb}
 use Rattle.std.proofs.lemmas.Cmp.{on_total, then_total}
 use Rattle.std.proofs.lemmas.Map.Lookups.{CmpEqualImpliesEq, exact_pairs, exact_unsigned}
 use Rattle.std.specs.Cmp.{IsTotalOrder, eq_by_cmp_equiv, nat_cmp_total}
@@ -29,8 +29,8 @@ either_way false true f g = g refl
 either_way false false f g = refl
 
 ties : (g h : Host) → eq_by_cmp host_cmp g h ≡ same_host g h
-ties g h = either_way (eq_by_cmp host_cmp g h) (same_host g h)
-    (λ e. let P : Host → Type 0 = λ x. same_host g x ≡ true in subst P (exact g h (is_equal (host_cmp g h) e)) (host_itself g))
+ties g h = either_way _ _
+    (λ e. let P : Host → Type 0 = λ x. same_host g x ≡ true in subst P (exact g h (is_equal _ e)) (host_itself g))
     (λ e. let P : Host → Type 0 = λ x. eq_by_cmp host_cmp g x ≡ true in subst P (same_host-true g h e) ((eq_by_cmp_equiv total).refl g))
 
 -- ---- one queue
@@ -61,7 +61,7 @@ pub for_other : {A : Type 0} (q : Queues A) (h : Host) (xs : List A) (g : Host) 
 for_other {A} q h xs g e = ap (λ (o : Option (List A)). unwrap_or o []) (get_other q h xs g e)
 
 pub queued_other : {A : Type 0} (t : Bool) (q : Queues A) (h : Host) (x : A) (g : Host) → same_host g h ≡ false → for_host (queued_if t q h x) g ≡ for_host q g
-queued_other true q h x g e = for_other q h (for_host q h ++ x ∷ []) g e
+queued_other true q h x g e = for_other q h _ g e
 queued_other false q h x g e = refl
 
 pub none_for : {A : Type 0} (h : Host) → for_host {A = A} empty h ≡ []
@@ -104,7 +104,7 @@ queues_with {A} IsValid hosts q h xs are valid own = record {
 pub queues_more : {A : Type 0} (IsValid : A → Type 0) (hosts : List Host) (t : Bool) (q : Queues A) (h : Host) (x : A) → AreQueues IsValid hosts q → IsValid x → (t ≡ true → is_host hosts h ≡ true)
     → AreQueues IsValid hosts (queued_if t q h x)
 queues_more IsValid hosts true q h x are valid there =
-    queues_with IsValid hosts q h (for_host q h ++ x ∷ []) are
+    queues_with IsValid hosts q h _ are
     (All-append IsValid (for_host q h) (x ∷ []) (are.valid h) (All-cons IsValid x [] valid (All-nil IsValid)))
     (λ none. absurd (false≢true (sym none ∙ there refl)))
 queues_more IsValid hosts false q h x are valid there = are
@@ -116,7 +116,7 @@ All-rest_of IsValid (x ∷ xs) h = All-tail IsValid x xs h
 -- the oldest is taken
 pub queues_rest : {A : Type 0} (IsValid : A → Type 0) (hosts : List Host) (q : Queues A) (h : Host) → AreQueues IsValid hosts q → AreQueues IsValid hosts (with_queue q h (rest (for_host q h)))
 queues_rest {A} IsValid hosts q h are =
-    queues_with IsValid hosts q h (rest (for_host q h)) are (All-rest_of IsValid (for_host q h) (are.valid h)) (λ none. ap (λ (xs : List A). rest xs) (are.of_hosts h none))
+    queues_with IsValid hosts q h _ are (All-rest_of IsValid _ (are.valid h)) (λ none. ap (λ (xs : List A). rest xs) (are.of_hosts h none))
 
 -- ---- two maps of queues
 

@@ -1,7 +1,7 @@
 -- What an event's parts do not name is as before.
 use Rattle.trace.proofs.Common.{◌≡◌, ◌||◌, Bool, true, false, List, [], ◌∷◌, ◌++◌, Option, Some, None, if◌then◌else◌, filter, inl, inr, map, refl, reverse, sym, ap, ◌∙◌, Host, is_host, same_host, Flow, NetEvent, Crossing, Shown, crossings_of, Happens, IsOneCall, RawEvent}
 use Rattle.std.proofs.lemmas.Bool.{false≢true, or_parts}
-use Rattle.leader1822.specs.Boxes.{Boxes, for_host, given_up, inbound_taken, next_for, offered, rest, stepped, plain_calls}
+use Rattle.leader1822.specs.Boxes.{Boxes, for_host, given_up, inbound_taken, offered, stepped, plain_calls}
 use Rattle.interface.specs.declared.Inbound.{Inbound}
 use Rattle.interface.specs.declared.Inbound.TheVariants as inbound
 use Rattle.interface.specs.declared.NetEvent.TheVariants as net
@@ -44,7 +44,7 @@ not_reached hosts e crossings h there none = by (reaches e crossings h) refl
   where
     by : (b : Bool) → reaches e crossings h ≡ b → reaches e crossings h ≡ false
     by false is = is
-    by true is = absurd (false≢true (sym none ∙ past_down (moves_host e) h (map (λ g. Waiting g) (filter (reaches e crossings) hosts)) ∙ host_named (reaches e crossings) h hosts there is))
+    by true is = absurd (false≢true (sym none ∙ past_down (moves_host e) h _ ∙ host_named _ h hosts there is))
 
 -- ---- each event
 
@@ -59,25 +59,25 @@ as_left : (old left new : Boxes) (h : Host) → Same old h left → new ≡ left
 as_left old left new h s e = (ap (λ b. for_host b.messages h) e ∙ s.0, ap (λ b. for_host b.answers h) e ∙ s.1)
 
 offered_same : (old : Boxes) (m : HostMessage) (h : Host) → same_host h m.flow.destination ≡ false → same_host h m.flow.source ≡ false → Same old h (offered old m)
-offered_same old m h d s = (queued_other _ old.messages m.flow.destination m h d, queued_other _ old.answers m.flow.source (answer.Dead, m.flow) h s)
+offered_same old m h d s = (queued_other _ _ _ m h d, queued_other _ _ _ _ h s)
 
 given_up_same : (old : Boxes) (f : Flow) (h : Host) → same_host h f.destination ≡ false → same_host h f.source ≡ false → Same old h (given_up old f)
-given_up_same old f h d s = (for_other old.messages f.destination _ h d, for_other old.answers f.source _ h s)
+given_up_same old f h d s = (for_other _ _ _ h d, for_other _ _ _ h s)
 
 -- after what crossed, its source is notified
 source_told : (h : Host) (cs log new : List Crossing) (m : HostMessage) → new ≡ reverse cs ++ log → new ≡ crossing.In m ∷ log → is_source h cs ≡ false → same_host h m.flow.source ≡ false
 source_told h cs log new m grown is none =
-    let one : cs ≡ crossing.In m ∷ [] = crossings_are cs (crossing.In m ∷ []) log new grown is in
+    let one : cs ≡ crossing.In m ∷ [] = crossings_are cs _ log new grown is in
     (or_parts (same_host h m.flow.source) false (ap (is_source h) (sym one) ∙ none)).0
 
 taken_same : (old new : Boxes) (g h : Host) (o : Option Inbound) (cs : List Crossing) → new ≡ inbound_taken old g o → new.log ≡ reverse cs ++ old.log → same_host h g ≡ false → is_source h cs ≡ false → Same old h new
 taken_same old new g h None cs e grown other none = all_same old new h e
 taken_same old new g h (Some (inbound.Answer kind f)) cs e grown other none =
-    as_left old (inbound_taken old g (Some (inbound.Answer kind f))) new h (refl, for_other old.answers g (rest (for_host old.answers g)) h other) e
+    as_left old _ new h (refl, for_other _ g _ h other) e
 taken_same old new g h (Some (inbound.Message m)) cs e grown other none =
-    let apart : same_host h m.flow.source ≡ false = source_told h cs old.log new.log m grown (ap (λ b. b.log) e) none in
-    as_left old (inbound_taken old g (Some (inbound.Message m))) new h
-    (for_other old.messages g (rest (for_host old.messages g)) h other, queued_other _ old.answers m.flow.source (answer.Rfnm, m.flow) h apart) e
+    let apart : same_host h m.flow.source ≡ false = source_told h cs _ _ m grown (ap (λ b. b.log) e) none in
+    as_left old _ new h
+    (for_other _ g _ h other, queued_other _ _ _ _ h apart) e
 
 stepped_same : (old : Boxes) (e : NetEvent) (crossings : List Crossing) (h : Host) → reaches (event.Net e) crossings h ≡ false → Same old h (stepped old e)
 stepped_same old (net.GiveUp f) crossings h none = let apart = or_parts (same_host h f.destination) (same_host h f.source) none in given_up_same old f h apart.0 apart.1
@@ -88,13 +88,13 @@ pub queues_left : (old new : Boxes) (e : RawEvent) (shown : List Shown) (h : Hos
 queues_left old new (event.Out m) shown h (inl same) k none = all_same old new h same
 queues_left old new (event.Out m) shown h (inr left) k none =
     let apart = or_parts (same_host h m.flow.destination) (same_host h m.flow.source) none in
-    as_left old (offered old m) new h (offered_same old m h apart.0 apart.1) left.1
+    as_left old _ new h (offered_same old m h apart.0 apart.1) left.1
 queues_left old new (event.Take g) shown h (inl same) k none = all_same old new h same
 queues_left old new (event.Take g) shown h (inr left) k none =
     let apart = or_parts (same_host h g) (is_source h (crossings_of shown)) none in
-    taken_same old new g h (next_for old g) (crossings_of shown) left.1 (happens_shows plain_calls old new (event.Take g) shown k) apart.0 apart.1
+    taken_same old new g h _ (crossings_of shown) left.1 (happens_shows plain_calls old new _ shown k) apart.0 apart.1
 queues_left old new (event.Net e) shown h (inl same) k none = all_same old new h same
-queues_left old new (event.Net e) shown h (inr left) k none = as_left old (stepped old e) new h (stepped_same old e (crossings_of shown) h none) left.1
+queues_left old new (event.Net e) shown h (inr left) k none = as_left old _ new h (stepped_same old e _ h none) left.1
 queues_left old new (event.Calm rounds) shown h left k none = absurd left
 
 -- ---- hosts, and those that are down
@@ -131,18 +131,18 @@ stepped_down old e none = refl
 
 frame_of : (old new : Boxes) (e : RawEvent) → Left old new e → Frame old new
 frame_of old new (event.Out m) (inl same) = same_frame old new same
-frame_of old new (event.Out m) (inr left) = frame_left old (offered old m) new (record { hosts = refl; stopped = refl }) left.1
+frame_of old new (event.Out m) (inr left) = frame_left old _ new (record { hosts = refl; stopped = refl }) left.1
 frame_of old new (event.Take g) (inl same) = same_frame old new same
-frame_of old new (event.Take g) (inr left) = frame_left old (inbound_taken old g (next_for old g)) new (taken_frame old g (next_for old g)) left.1
+frame_of old new (event.Take g) (inr left) = frame_left old _ new (taken_frame old g _) left.1
 frame_of old new (event.Net e) (inl same) = same_frame old new same
-frame_of old new (event.Net e) (inr left) = frame_left old (stepped old e) new (stepped_frame old e) left.1
+frame_of old new (event.Net e) (inr left) = frame_left old _ new (stepped_frame old e) left.1
 frame_of old new (event.Calm rounds) left = absurd left
 
 pub down_left : (old new : Boxes) (e : RawEvent) → Left old new e → moves_host e ≡ false → new.down ≡ old.down
 down_left old new (event.Out m) (inl same) none = ap (λ b. b.down) same
 down_left old new (event.Out m) (inr left) none = ap (λ b. b.down) left.1
 down_left old new (event.Take g) (inl same) none = ap (λ b. b.down) same
-down_left old new (event.Take g) (inr left) none = ap (λ b. b.down) left.1 ∙ taken_down old g (next_for old g)
+down_left old new (event.Take g) (inr left) none = ap (λ b. b.down) left.1 ∙ taken_down old g _
 down_left old new (event.Net e) (inl same) none = ap (λ b. b.down) same
 down_left old new (event.Net e) (inr left) none = ap (λ b. b.down) left.1 ∙ stepped_down old e none
 down_left old new (event.Calm rounds) left none = absurd left
@@ -152,6 +152,6 @@ frame old new e shown one k = frame_of old new e (left_of old new e shown one k)
 
 pub rest_same : (old new : Boxes) (e : RawEvent) (shown : List Shown) (p : Part) → IsOneCall e → Happens plain_calls old e new shown → IsPart old.hosts p → is_named p (parts_of old.hosts e (crossings_of shown)) ≡ false → SamePart p old new
 rest_same old new e shown Down one k there none =
-    down_left old new e (left_of old new e shown one k) (down_named (moves_host e) (map (λ h. Waiting h) (filter (reaches e (crossings_of shown)) old.hosts)) none)
+    down_left old new e (left_of old new e shown one k) (down_named _ _ none)
 rest_same old new e shown (Waiting h) one k there none =
-    queues_left old new e shown h (left_of old new e shown one k) k (not_reached old.hosts e (crossings_of shown) h there none)
+    queues_left old new e shown h (left_of old new e shown one k) k (not_reached _ e _ h there none)

@@ -36,13 +36,13 @@ all_told {S} {E} Happens old new all left a b none h =
 pub ends_told : {S E : Type 0} (Happens Goes : Happening S E (List ℕ)) (old mid new : S) (all left later : List E) (e : E) (a b c : Option (List ℕ))
     → left ≡ e ∷ later → SoFar Happens old all left mid a b → WritesTrace (Goes mid e new) b c → WritesTrace (EndsInTurn Happens Goes old all new) a c
 ends_told Happens Goes old mid new all left later e a b c is h k =
-    last_written Happens Goes (λ line. line) old mid new all h.done e later a b c (h.parts ∙ ap (λ es. h.done ++ es) is) h.written k
+    last_written Happens Goes _ old mid new all h.done e later a b c (h.parts ∙ ap (λ es. h.done ++ es) is) h.written k
 
 pub fails_told : {S E : Type 0} (Happens Goes : Happening S E (List ℕ)) (old mid new : S) (all left later : List E) (e : E) (a b : Option (List ℕ))
     → left ≡ e ∷ later → SoFar Happens old all left mid a b → ((lines : List (List ℕ)) × Goes mid e new lines) → (lines : List (List ℕ)) × EndsInTurn Happens Goes old all new lines
 fails_told Happens Goes old mid new all left later e a b is h (lines, k) = (
   h.written.shown ++ lines,
-  last_shown Happens Goes old mid new all h.done e later h.written.shown lines (h.parts ∙ ap (λ es. h.done ++ es) is) h.written.is_shown k,
+  last_shown Happens Goes old mid new all h.done e later _ lines (h.parts ∙ ap (λ es. h.done ++ es) is) h.written.is_shown k,
 )
 
 -- ---- the events of a script

@@ -116,6 +116,7 @@ pub record WorkedLines : Type 0 where
         raw = true;
         imps = record { imp = 1; hosts = 2 } ∷ record { imp = 3; hosts = 0 } ∷ [];
         lines = record { a = 3; b = 1 } ∷ [];
+        strangers = [];
       }) (codes "{}")
       ≡ codes "{\"trace\":3,\"carrier\":\"subnet\",\"raw\":true,\"imps\":[[1,2],[3,0]],\"lines\":[[3,1]],\"parts\":{}}"
   pub all_parts :

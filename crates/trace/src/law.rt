@@ -47,8 +47,8 @@ pub fn changes()
     ensures { Changes }
 {}
 
-/// The first line of a trace describes the network: which carrier it has, its IMPs with their hosts, and its lines in
-/// their order.
+/// The first line of a trace describes the network but for its strangers: which carrier it has, its IMPs with their
+/// hosts, and its lines in their order. A raw network has no strangers.
 pub fn network()
-    ensures one { (one other : TopologyFields) (parts rest : List ℕ) → IsTopology one → IsTopology other → opening_line one parts ≡ opening_line other rest → one ≡ other }
+    ensures one { (one other : TopologyFields) (parts rest : List ℕ) → IsTopology one → IsTopology other → one.strangers ≡ other.strangers → opening_line one parts ≡ opening_line other rest → one ≡ other }
 {}

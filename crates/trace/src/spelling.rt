@@ -99,6 +99,7 @@ pub fn print_net_event<W: Output>(event: &NetEvent, writer: &mut W) -> Result<()
         } => print_frame("garble", line, direction, frame, writer),
         NetEvent::Resend(imp) => print_imp("resend", imp, writer),
         NetEvent::Route(imp) => print_imp("route", imp, writer),
+        NetEvent::Claim(imp) => print_imp("claim", imp, writer),
         NetEvent::EndDown { imp, line } => print_end("enddown", imp, line, writer),
         NetEvent::EndUp { imp, line } => print_end("endup", imp, line, writer),
         NetEvent::ImpDown(imp) => print_imp("impdown", imp, writer),

@@ -16,6 +16,7 @@ pub use Rattle.world_keeps_lives.proofs.Facts.{no}
 pub use Rattle.world_keeps_lives.proofs.Firsts.Books.{WasAt, same_out}
 pub use Rattle.world_keeps_lives.proofs.Firsts.Ends.{HasOwner, Together, not_zero, str_foreign}
 pub use Rattle.world_keeps_lives.proofs.Firsts.Full
+pub use Rattle.world_keeps_lives.proofs.Firsts.Rows.{gave_sent, gave_stray, gave_two, not_receiving, not_sending}
 pub use Rattle.world_keeps_lives.proofs.Formed
 pub use Rattle.world_keeps_lives.proofs.Goes.{IsOfTwo, Waits, all_go, unasked_by}
 pub use Rattle.world_keeps_lives.proofs.Grounds.{crossed_below}

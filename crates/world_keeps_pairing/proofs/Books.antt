@@ -43,7 +43,7 @@ module _ (origin : ℕ → ℕ) (h p : Host) (own foreign : ℕ) where
   where_same : (test : book.Life → Bool) (change : book.Life → book.Life) → Keeps change → (xs : List book.Life) (told : List Life) → with_lives origin h p own foreign (where_it test change xs) told ≡ with_lives origin h p own foreign xs told
   where_same test change k [] told = refl
   where_same test change k (x ∷ xs) told =
-      ap (λ (ts : List Life). with_lives origin h p own foreign (where_it test change xs) ts) (changed_if (test x) change k x told)
+      ap (λ (ts : List Life). with_lives origin h p own foreign (where_it test change xs) ts) (changed_if _ change k x told)
       ∙ where_same test change k xs (with_life origin h p own foreign x told)
 
   -- ---- a notice
@@ -62,12 +62,12 @@ module _ (origin : ℕ → ℕ) (h p : Host) (own foreign : ℕ) where
   notice_lives g (notice.Opened socket peer other asked partner) xs =
       lives_append xs _ []
       ∙ if_both _ _ _ (Here xs)
-  notice_lives g (notice.Ended socket peer other) xs = where_same _ life_ended (λ x told. refl) xs [] ∙ if_same _ (Here xs)
-  notice_lives g (notice.PairReset peer) xs = where_same _ life_ended (λ x told. refl) xs [] ∙ if_same _ (Here xs)
-  notice_lives g (notice.Sent socket bits) xs = where_same _ _ (λ x told. refl) xs [] ∙ if_same _ (Here xs)
-  notice_lives g (notice.Arrived socket bits) xs = where_same _ _ (λ x told. refl) xs [] ∙ if_same _ (Here xs)
-  notice_lives g (notice.Returned socket messages bits) xs = where_same _ _ (λ x told. refl) xs [] ∙ if_same _ (Here xs)
-  notice_lives g n xs = if_same _ (Here xs)
+  notice_lives g (notice.Ended socket peer other) xs = where_same _ life_ended (λ x told. refl) xs [] ∙ if_same _ _
+  notice_lives g (notice.PairReset peer) xs = where_same _ life_ended (λ x told. refl) xs [] ∙ if_same _ _
+  notice_lives g (notice.Sent socket bits) xs = where_same _ _ (λ x told. refl) xs [] ∙ if_same _ _
+  notice_lives g (notice.Arrived socket bits) xs = where_same _ _ (λ x told. refl) xs [] ∙ if_same _ _
+  notice_lives g (notice.Returned socket messages bits) xs = where_same _ _ (λ x told. refl) xs [] ∙ if_same _ _
+  notice_lives g n xs = if_same _ _
 
   told_on : (b : Bool) (n : Notice) (ns : List Notice) (new old : List Life) → new ≡ (if b then of_peer n old else old) → (if b then all_of_peer ns new else new) ≡ (if b then all_of_peer (n ∷ ns) old else old)
   told_on true n ns new old e = ap (all_of_peer ns) e
@@ -76,7 +76,7 @@ module _ (origin : ℕ → ℕ) (h p : Host) (own foreign : ℕ) where
   told_lives : (g : Host) (ns : List Notice) (k : Kept) → Here (all_told g ns k).book.lives ≡ (if same_host h g then all_of_peer ns (Here k.book.lives) else Here k.book.lives)
   told_lives g [] k = if_same _ _
   told_lives g (n ∷ ns) k =
-      told_lives g ns (book_told g n k) ∙ told_on _ n ns _ _ (notice_lives g n k.book.lives)
+      told_lives g ns (book_told g n k) ∙ told_on _ n ns _ _ (notice_lives g n _)
 
   -- ---- a moment
 
@@ -89,8 +89,8 @@ module _ (origin : ℕ → ℕ) (h p : Host) (own foreign : ℕ) where
   asked_same g r xs = refl
 
   by_same : (x : Moment) (k : Kept) → Here (kept_by x k).book.lives ≡ Here k.book.lives
-  by_same (Crossed c) k = crossed_same c k.book.lives
-  by_same (Asked g r) k = asked_same g r k.book.lives
+  by_same (Crossed c) k = crossed_same c _
+  by_same (Asked g r) k = asked_same g r _
 
   -- the lives at these two sockets after one moment more
   pub kept_step : (hosts : Network) → hosts.strange h ≡ false → (x : Moment) (moments : List Moment) → Here (mixed_kept hosts.strange (x ∷ moments)).book.lives
@@ -101,19 +101,19 @@ module _ (origin : ℕ → ℕ) (h p : Host) (own foreign : ℕ) where
 
     only : (y : Moment) → Here (crossed_only y (mixed_kept hosts.strange moments)).book.lives ≡ Here (mixed_kept hosts.strange moments).book.lives
     only (Crossed c) = crossed_same c (mixed_kept hosts.strange moments).book.lives
-    only (Asked g r) = refl
+    only _ = refl
 
     away : (c : Bool) → same_host h (host_in x) ≡ c → hosts.strange (host_in x) ≡ true → c ≡ false
-    away true e on = absurd (let no : true ≡ false = sym on ∙ ap hosts.strange (sym (same_host-true h (host_in x) e)) ∙ off in cc)
+    away true e on = absurd (let no : true ≡ false = sym on ∙ ap hosts.strange (sym (same_host-true h _ e)) ∙ off in cc)
     away false e on = refl
 
     by : (b : Bool) → hosts.strange (host_in x) ≡ b
         → Here (if b then crossed_only x (mixed_kept hosts.strange moments) else all_told (host_in x) (notices_by x moments) (kept_by x (mixed_kept hosts.strange moments))).book.lives
         ≡ (if same_host h (host_in x) then all_of_peer (notices_by x moments) (Here (mixed_kept hosts.strange moments).book.lives) else Here (mixed_kept hosts.strange moments).book.lives)
-    by true on = only x ∙ sym (ap (λ (c : Bool). if c then all_of_peer (notices_by x moments) (Here (mixed_kept hosts.strange moments).book.lives) else Here (mixed_kept hosts.strange moments).book.lives) (away (same_host h (host_in x)) refl on))
+    by true on = only x ∙ sym (ap (λ (c : Bool). if c then all_of_peer (notices_by x moments) (Here (mixed_kept hosts.strange moments).book.lives) else Here (mixed_kept hosts.strange moments).book.lives) (away _ refl on))
     by false apart =
-        told_lives (host_in x) (notices_by x moments) (kept_by x (mixed_kept hosts.strange moments))
-        ∙ ap (λ (ts : List Life). if same_host h (host_in x) then all_of_peer (notices_by x moments) ts else ts) (by_same x (mixed_kept hosts.strange moments))
+        told_lives _ (notices_by x moments) _
+        ∙ ap (λ (ts : List Life). if same_host h (host_in x) then all_of_peer (notices_by x moments) ts else ts) (by_same x _)
 
   -- ---- whom notices are about
 

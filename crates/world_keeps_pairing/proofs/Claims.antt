@@ -83,7 +83,7 @@ says_last : (t : Sockets) (w : Word) (xs : List Step) → AreSteps (Says Receive
     → ((sides.both (with_event (links.when b (One (Say m))) (events_at t xs))).one.end.asked ≡ Some p) → IsAmong (word_of t link p) (if stays Receiver xs then w ∷ said_words Receiver xs else said_words Receiver xs)
     → last_link t (claimed m w.sockets w.link (said_claims xs)) ≡ Some link
 says_last t w xs r p link k true e (Ask q) f asked among =
-    let is : t ≡ w.sockets = same_is t w.sockets e in
+    let is : t ≡ w.sockets = same_is t _ e in
     let same_place : q ≡ p = same_Some q p asked in
     let found : last_link t (claimed (Ask q) w.sockets w.link (said_claims xs)) ≡ Some w.link = rw e refl in
     elim (in_if (stays Receiver xs) w _ _ among) [
@@ -118,7 +118,7 @@ other_asked false move es p e = e
 
 pub asked_last : (t : Sockets) (xs : List Step) → AreSteps xs → (p link : ℕ) → Named t p link xs → IsLast t link xs
 asked_last t [] r p link n = absurd n.1
-asked_last t (Says Receiver w ∷ xs) r p link n = says_last t w xs r p link (asked_last t xs r.1 p link) (same t w.sockets) refl w.mark refl n.0 n.1
+asked_last t (Says Receiver w ∷ xs) r p link n = says_last t w xs r p link (asked_last t xs r.1 p link) _ refl w.mark refl n.0 n.1
 asked_last t (Says Sender w ∷ xs) r p link n = asked_last t xs r.1 p link (other_asked (same t w.sockets) (Say w.mark) (events_at t xs) p n.0, n.1)
 asked_last t (Hears Receiver w ∷ xs) r p link n = asked_last t xs r.1 p link (hears_asked (same t w.sockets) w.mark (events_at t xs) p n.0, n.1)
 asked_last t (Hears Sender w ∷ xs) r p link n = asked_last t xs r.1 p link (other_asked (same t w.sockets) (sides.Hear w.mark) (events_at t xs) p n.0, n.1)
@@ -152,18 +152,18 @@ heard_among : (t : Sockets) (w : Word) (xs : List Step) → AreSteps (Hears Send
     → (fits m (sender t xs).end ≡ true ⊎ (b ≡ false)) → ((sides.both (with_event (links.when b (Two (sides.Hear m))) (events_at t xs))).two.end.partner ≡ Some p) → last_link t (claimed m w.sockets w.link (heard_claims xs)) ≡ Some link
     → IsAmong (record { sockets = t; link = link; mark = Ask p }) (w ∷ heard_words Sender xs)
 heard_among t w xs r p link k true e (Ask q) f (inl fit) partner last =
-    let is : t ≡ w.sockets = same_is t w.sockets e in
+    let is : t ≡ w.sockets = same_is t _ e in
     let now : (if fits (Ask q) (sender t xs).end then mark_taken (Ask q) (sender t xs).end else (sender t xs).end).partner ≡ Some p = partner in
     let place : Some q ≡ Some p = ap (λ (c : Bool). (if c then mark_taken (Ask q) (sender t xs).end else (sender t xs).end).partner) (sym fit) ∙ now in
     let found : Some w.link ≡ Some link = ap (λ (c : Bool). if c then Some w.link else last_link t (heard_claims xs)) (sym e) ∙ last in
-    inl (made t w.sockets link w.link (Ask p) w.mark is (sym (same_Some w.link link found)) (ap (λ (n : ℕ). Ask n) (sym (same_Some q p place)) ∙ sym f)) where
+    inl (made t _ link w.link _ w.mark is (sym (same_Some w.link link found)) (ap (λ (n : ℕ). Ask n) (sym (same_Some q p place)) ∙ sym f)) where
       word : Sockets → ℕ → Mark → Word
       word s l m = record { sockets = s; link = l; mark = m }
 
       made : (s s' : Sockets) (l l' : ℕ) (m m' : Mark) → s ≡ s' → l ≡ l' → m ≡ m' → word s l m ≡ word s' l' m'
       made s s' l l' m m' e f g = rw (e, f, g) refl
 heard_among t w xs r p link k true e (Ask q) f (inr off) partner last = absurd (let both : true ≡ false = off in cc)
-heard_among t w xs r p link k true e Close f fit partner last = inr (k (close_partner (sender t xs).end p (fits Close (sender t xs).end) partner, last))
+heard_among t w xs r p link k true e Close f fit partner last = inr (k (close_partner (sender t xs).end p _ partner, last))
 heard_among t w xs r p link k false e m f fit partner last = inr (k (partner, skipped m last)) where
   skipped : (n : Mark) → last_link t (claimed n w.sockets w.link (heard_claims xs)) ≡ Some link → last_link t (heard_claims xs) ≡ Some link
   skipped (Ask q) h = rw e at h
@@ -185,7 +185,7 @@ fits_here t w xs r false e = inr refl
 
 pub partner_among : (t : Sockets) (xs : List Step) → AreSteps xs → (p link : ℕ) → Heard t p link xs → Among t p link xs
 partner_among t [] r p link h = absurd (let both : None ≡ Some p = h.0 in cc)
-partner_among t (Hears Sender w ∷ xs) r p link h = heard_among t w xs r p link (partner_among t xs r.1 p link) (same t w.sockets) refl w.mark refl (fits_here t w xs r (same t w.sockets) refl) h.0 h.1
+partner_among t (Hears Sender w ∷ xs) r p link h = heard_among t w xs r p link (partner_among t xs r.1 p link) _ refl w.mark refl (fits_here t w xs r _ refl) h.0 h.1
 partner_among t (Hears Receiver w ∷ xs) r p link h = partner_among t xs r.1 p link (other_partner (same t w.sockets) (sides.Hear w.mark) (events_at t xs) p h.0, h.1)
 partner_among t (Says Sender w ∷ xs) r p link h = partner_among t xs r.1 p link (says_partner (same t w.sockets) w.mark (events_at t xs) p h.0, h.1)
 partner_among t (Says Receiver w ∷ xs) r p link h = partner_among t xs r.1 p link (other_partner (same t w.sockets) (Say w.mark) (events_at t xs) p h.0, h.1)

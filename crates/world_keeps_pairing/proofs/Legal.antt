@@ -61,13 +61,13 @@ heard_now who hosts e events r a b ours stays false f =
     let here : stay.heard_in_stay a b 0 (e ∷ events) ≡ stay.heard_in_stay a b 0 events ++ stay.heard_by a b 0 e = rw (f, stays) refl in
     let there : stay.said_in_stay a b 0 (e ∷ events) ≡ stay.said_in_stay a b 0 events ++ (if stay.stays a b events then stay.said_by a b 0 e else []) = rw f refl in
     subst (λ (l : List Word). AreOlder l (onto_if (stay.stays a b events) (words_of who (stay.said_by a b 0 e)) (onto (words_of who (stay.said_in_stay a b 0 events)) [])))
-    (ap (λ (l : List (List Bool)). onto (words_of who l) []) here ∙ ap (λ (l : List Word). onto l []) (words_join who (stay.heard_in_stay a b 0 events) (stay.heard_by a b 0 e))
-    ∙ onto_join (words_of who (stay.heard_in_stay a b 0 events)) (words_of who (stay.heard_by a b 0 e)) [])
+    (ap (λ (l : List (List Bool)). onto (words_of who l) []) here ∙ ap (λ (l : List Word). onto l []) (words_join who _ _)
+    ∙ onto_join (words_of who (stay.heard_in_stay a b 0 events)) _ [])
     (subst (λ (l : List Word). AreOlder (onto (words_of who (stay.heard_in_stay a b 0 (e ∷ events))) []) l) (ap (λ (l : List (List Bool)). onto (words_of who l) []) there ∙ more (stay.stays a b events))
-    (front_words who (stay.heard_in_stay a b 0 (e ∷ events)) (stay.said_in_stay a b 0 (e ∷ events)) front)) where
+    (front_words who _ _ front)) where
       more : (t : Bool) → onto (words_of who (stay.said_in_stay a b 0 events ++ (if t then stay.said_by a b 0 e else []))) [] ≡ onto_if t (words_of who (stay.said_by a b 0 e)) (onto (words_of who (stay.said_in_stay a b 0 events)) [])
-      more true = ap (λ (l : List Word). onto l []) (words_join who (stay.said_in_stay a b 0 events) (stay.said_by a b 0 e)) ∙ onto_join (words_of who (stay.said_in_stay a b 0 events)) (words_of who (stay.said_by a b 0 e)) []
-      more false = ap (λ (l : List Word). onto l []) (words_join who (stay.said_in_stay a b 0 events) []) ∙ onto_join (words_of who (stay.said_in_stay a b 0 events)) (words_of who []) []
+      more true = ap (λ (l : List Word). onto l []) (words_join who _ _) ∙ onto_join (words_of who (stay.said_in_stay a b 0 events)) (words_of who (stay.said_by a b 0 e)) []
+      more false = ap (λ (l : List Word). onto l []) (words_join who _ []) ∙ onto_join (words_of who (stay.said_in_stay a b 0 events)) (words_of who []) []
 
 left_may : (keep : Bool) (who : Who) (xs : List Step) → AreSteps xs → AreSteps (steps_left keep who xs)
 left_may true who xs h = h
@@ -98,22 +98,22 @@ legal hosts e events r a b ours h =
     let to_receiver : List Word = words_of Sender (stay.heard_by b a 0 e) in
     let is : view spoken ≡ spoken_view a b e (lawful a b events) = spoken_is a b e events in
     let half_heard : List Step = heard_in (stay.stays b a events) Sender to_sender spoken in
-    let next : view half_heard ≡ record (view spoken) { sender_heard = onto_if (stay.stays b a events) to_sender (heard_words Sender spoken) } = sender_hears_if (stay.stays b a events) to_sender spoken in
-    let first : AreSteps half_heard = sender_may_if (stay.stays b a events) to_sender spoken h (λ t. (
+    let next : view half_heard ≡ record (view spoken) { sender_heard = onto_if (stay.stays b a events) to_sender (heard_words Sender spoken) } = sender_hears_if _ to_sender spoken in
+    let first : AreSteps half_heard = sender_may_if _ to_sender spoken h (λ t. (
       ap (λ (v : View). v.sender_stays) is ∙ t,
-      older_as to_sender (heard_words Sender spoken) (onto (words_of Receiver (stay.heard_in_stay a b 0 events)) []) (said_words Receiver spoken)
-          (onto_if (stay.stays a b events) (words_of Receiver (stay.said_by a b 0 e)) (onto (words_of Receiver (stay.said_in_stay a b 0 events)) []))
-          (ap (λ (v : View). v.sender_heard) is) (ap (λ (v : View). v.receiver_said) is) (heard_now Receiver hosts e events r a b ours t (stay.begins a b e events) refl),
+      older_as to_sender _ _ _
+          _
+          (ap (λ (v : View). v.sender_heard) is) (ap (λ (v : View). v.receiver_said) is) (heard_now Receiver hosts e events r a b ours t _ refl),
     )) in
-    let second : AreSteps (taken_by a b e events spoken) = receiver_may_if (stay.stays a b events) to_receiver half_heard first (λ t. (
+    let second : AreSteps (taken_by a b e events spoken) = receiver_may_if _ to_receiver half_heard first (λ t. (
       ap (λ (v : View). v.receiver_stays) next ∙ ap (λ (v : View). v.receiver_stays) is ∙ t,
-      older_as to_receiver (heard_words Receiver half_heard) (onto (words_of Sender (stay.heard_in_stay b a 0 events)) []) (said_words Sender half_heard)
-          (onto_if (stay.stays b a events) (words_of Sender (stay.said_by b a 0 e)) (onto (words_of Sender (stay.said_in_stay b a 0 events)) []))
+      older_as to_receiver _ _ _
+          _
           (ap (λ (v : View). v.receiver_heard) next ∙ ap (λ (v : View). v.receiver_heard) is) (ap (λ (v : View). v.sender_said) next ∙ ap (λ (v : View). v.sender_said) is)
-          (heard_now Sender hosts e events r b a (ours.1, ours.0) t (stay.begins b a e events) refl),
+          (heard_now Sender hosts e events r b a (ours.1, ours.0) t _ refl),
     )) in
     let under : List Step = steps_left (keeps a b e events) Receiver (steps_left (keeps b a e events) Sender (taken_by a b e events spoken)) in
-    met_may (stay.begins a b e events) under (left_may (keeps a b e events) Receiver _ (left_may (keeps b a e events) Sender _ second))
+    met_may _ under (left_may (keeps a b e events) Receiver _ (left_may (keeps b a e events) Sender _ second))
     (λ g s. (let f : Fresh a b e events = begins_fresh hosts e events r a b ours g in (
       ap (λ (x : Side). x.end) (receiver_before s a b e events ∙ ap (before a b (at_texts s Receiver) (at_texts s Sender) e events) (receiver_half s a b events))
           ∙ nothing_there a b (at_texts s Receiver) (at_texts s Sender) refl e events f.silent f.left,

@@ -38,7 +38,7 @@ module _ (key : Life → ℕ) where
   pub once_among : (xs ys : List Life) → AreAmong xs ys → IsOnce ys → IsOnce xs
   once_among [] ys a h = tt
   once_among (x ∷ xs) [] a h = absurd a
-  once_among (x ∷ xs) (y ∷ ys) (inl a) h = (none_among (key x) xs ys a.1 (subst (λ (v : Life). NoneHas (key v) ys) (sym a.0) h.0), once_among xs ys a.1 h.1)
+  once_among (x ∷ xs) (y ∷ ys) (inl a) h = (none_among _ xs ys a.1 (subst (λ (v : Life). NoneHas (key v) ys) (sym a.0) h.0), once_among xs ys a.1 h.1)
   once_among (x ∷ xs) (y ∷ ys) (inr a) h = once_among (x ∷ xs) ys a h.1
 
 none_owns : (p : ℕ) (lives : List Life) → NoneOwns p lives → NoneHas (λ x. x.own) p lives
@@ -55,7 +55,7 @@ none_took p (x ∷ lives) h = (h.0, none_took p lives h.1)
 
 pub partner_once : (lives : List Life) → PartnerOnce lives → IsOnce (λ x. x.partner) lives
 partner_once [] h = tt
-partner_once (x ∷ lives) h = (none_took x.partner lives h.0, partner_once lives h.1)
+partner_once (x ∷ lives) h = (none_took _ lives h.0, partner_once lives h.1)
 
 -- ---- lives of a book
 

@@ -1,5 +1,5 @@
 -- What users ask for and what is answered, and links.
-use Rattle.world_keeps_pairing.proofs.Common.{◌≡◌, ℕ, Bool, true, false, not, ◌&&◌, ◌||◌, if◌then◌else◌, List, [], ◌∷◌, ◌++◌, Option, Some, None, is_some, refl, sym, subst, ◌∙◌, Host, same_host, Flow, Answer, is_receive_socket, is_send_socket, Command, PairState, is_ready, Entry, Phase, Peer, Request}
+use Rattle.world_keeps_pairing.proofs.Common.{◌≡◌, ℕ, Bool, true, false, not, ◌&&◌, ◌||◌, if◌then◌else◌, List, [], ◌∷◌, ◌++◌, Option, Some, None, is_some, refl, sym, subst, ◌∙◌, Host, same_host, Flow, Answer, is_receive_socket, is_send_socket, Command, PairState, Entry, Phase, Peer, Request}
 use Rattle.interface.proofs.lemmas.{same_host-true, or_false, not_false}
 use Rattle.host_pairs.specs.Desk.{desk_of, listens_on}
 use Rattle.host_pairs.specs.Entries.{entry_at, free_link, is_receiving, receiving_end, sending_end, called_off, is_busy, is_mine_on}
@@ -41,7 +41,7 @@ module _ (said taken : List Claim) where
   queued_links c q mute h = subst (λ (claims : List Claim). Links claims taken q.entries) (sym (claims_join q.queue (c ∷ []) said ∙ mute (all_claims q.queue said))) h
 
   end_links : (socket : ℕ) (change : Entry → Entry) (q : PairState) → ((e : Entry) → IsQuiet e (change e)) → LinksOf said taken q → LinksOf said taken (with_end socket change q)
-  end_links socket change q quiet h = links_changed (all_claims q.queue said) taken _ change q.entries quiet h
+  end_links socket change q quiet h = links_changed (all_claims q.queue said) taken _ change _ quiet h
 
   closed_links : (socket : ℕ) (q : PairState) → LinksOf said taken q → LinksOf said taken (closed_end socket q)
   closed_links socket q h =
@@ -50,12 +50,12 @@ module _ (said taken : List Claim) where
   sender_links : (a b size : ℕ) (q : PairState) → is_send_socket a ≡ true → LinksOf said taken q → LinksOf said taken (requested (sending_end a b size) (command.Str a b size) q)
   sender_links a b size q odd h =
       subst (λ (claims : List Claim). Links claims taken (q.entries ++ sending_end a b size ∷ [])) (sym (claims_join q.queue _ said))
-      (links_joined (all_claims q.queue said) taken _ q.entries (λ l on. absurd (and_never _ on)) (λ even mine. absurd (let no : true ≡ false = sym even ∙ send_odd a odd in cc)) (λ asked. refl)
+      (links_joined (all_claims q.queue said) taken _ _ (λ l on. absurd (and_never _ on)) (λ even mine. absurd (let no : true ≡ false = sym even ∙ send_odd a odd in cc)) (λ asked. refl)
       (λ l on. absurd (and_never _ on)) h)
 
   receiver_links : (a b : ℕ) (l : Option ℕ) (q : PairState) → is_receive_socket a ≡ true → is_send_socket b ≡ true → free_link q.entries ≡ l → entry_at a b q.entries ≡ None → LinksOf said taken q → LinksOf said taken (receiver_requested a b l q)
   receiver_links a b None q even odd free none h = h
-  receiver_links a b (Some link) q even odd free none h = receiver_joined said taken a b link _ q.queue q.entries even odd refl refl refl refl free none h
+  receiver_links a b (Some link) q even odd free none h = receiver_joined said taken a b link _ q.queue _ even odd refl refl refl refl free none h
 
   owner_links : (s : NcpState) (o : Option (Host × Entry)) (change : Entry → PairState → PairState) (h : Host) → ((e : Entry) (q : PairState) → LinksOf said taken q → LinksOf said taken (change e q))
       → LinksOf said taken (pair_with h s.peers) → LinksOf said taken (pair_with h (at_owner s o change).peers)
@@ -80,31 +80,31 @@ module _ (said taken : List Claim) where
   request_links s (request.Contact peer) h ok k = kept (LinksOf said taken) peer h (contacted (pair_with peer s.peers)) s.peers k (λ j. record { sends = tt; names = tt; own = tt; single = λ l. tt })
   request_links s (request.Listen socket size) h ok k = k
   request_links s (request.OpenSend peer mine yours size) h ok k =
-      let parts : (not (is_send_socket mine && is_receive_socket yours) ≡ false) × (first_if (is_taken s peer mine yours) _ _ ≡ None) = not_first (not (is_send_socket mine && is_receive_socket yours)) _ _ (not_first (not (is_ready (pair_with peer s.peers).phase)) _ _ ok).1 in
+      let parts : (not (is_send_socket mine && is_receive_socket yours) ≡ false) × (first_if (is_taken s peer mine yours) _ _ ≡ None) = not_first _ _ _ (not_first _ _ _ ok).1 in
       kept (LinksOf said taken) peer h (requested (sending_end mine yours size) (command.Str mine yours size) (pair_with peer s.peers)) s.peers k
-      (sender_links mine yours size (pair_with peer s.peers) (both (is_send_socket mine) (is_receive_socket yours) (not_false (is_send_socket mine && is_receive_socket yours) parts.0)).0)
+      (sender_links mine yours size (pair_with peer s.peers) (both (is_send_socket mine) (is_receive_socket yours) (not_false _ parts.0)).0)
   request_links s (request.OpenReceive peer mine yours) h ok k =
-      let parts : (not (is_receive_socket mine && is_send_socket yours) ≡ false) × (first_if (is_taken s peer mine yours) _ _ ≡ None) = not_first (not (is_receive_socket mine && is_send_socket yours)) _ _ (not_first (not (is_ready (pair_with peer s.peers).phase)) _ _ ok).1 in
-      let sockets : (is_receive_socket mine ≡ true) × (is_send_socket yours ≡ true) = both (is_receive_socket mine) (is_send_socket yours) (not_false (is_receive_socket mine && is_send_socket yours) parts.0) in
+      let parts : (not (is_receive_socket mine && is_send_socket yours) ≡ false) × (first_if (is_taken s peer mine yours) _ _ ≡ None) = not_first _ _ _ (not_first _ _ _ ok).1 in
+      let sockets : (is_receive_socket mine ≡ true) × (is_send_socket yours ≡ true) = both (is_receive_socket mine) (is_send_socket yours) (not_false _ parts.0) in
       kept (LinksOf said taken) peer h (receiver_requested mine yours (free_link (pair_with peer s.peers).entries) (pair_with peer s.peers)) s.peers k
-      (receiver_links mine yours (free_link (pair_with peer s.peers).entries) (pair_with peer s.peers) sockets.0 sockets.1 refl (untaken s peer mine yours (not_first (is_taken s peer mine yours) _ _ parts.1).0))
+      (receiver_links mine yours _ (pair_with peer s.peers) sockets.0 sockets.1 refl (untaken s peer mine yours (not_first _ _ _ parts.1).0))
   request_links s (request.Send socket bits) h ok k =
       owner_links s (owner_of socket s.peers) (λ e. with_end socket (with_more_bits bits)) h (λ e q. end_links socket (with_more_bits bits) q (λ y. record { own = refl; foreign = refl; link = refl; mine = refl; partner = λ k. k; asked = λ k. k })) k
   request_links s (request.Grant socket messages bits) h ok k =
       owner_links s (owner_of socket s.peers) (λ e q. commanded (command.All (link_of e.link) messages bits) (with_end socket (granted messages bits) q)) h
       (λ e q j. queued_links (command.All (link_of e.link) messages bits) (with_end socket (granted messages bits) q) (λ claims. refl)
-      (end_links socket (granted messages bits) q (λ y. record { own = refl; foreign = refl; link = refl; mine = refl; partner = λ k. k; asked = λ k. k }) j)) k
+      (end_links socket _ q (λ y. record { own = refl; foreign = refl; link = refl; mine = refl; partner = λ k. k; asked = λ k. k }) j)) k
   request_links s (request.AskBack socket messages bits) h ok k =
       owner_links s (owner_of socket s.peers) (λ e. commanded (command.Gvb (link_of e.link) messages bits)) h (λ e q. queued_links (command.Gvb (link_of e.link) messages bits) q (λ claims. refl)) k
   request_links s (request.Interrupt socket) h ok k = owner_links s (owner_of socket s.peers) (λ e. commanded (interrupt_of e)) h (λ e q. queued_links (interrupt_of e) q (mute_interrupt e)) k
-  request_links s (request.Close socket) h ok k = close_links s socket h k (listens_on socket s.listening) refl
+  request_links s (request.Close socket) h ok k = close_links s socket h k _ refl
   request_links s (request.Echo peer octet) h ok k =
       kept (LinksOf said taken) peer h (commanded (command.Eco octet) (pair_with peer s.peers)) s.peers k (queued_links (command.Eco octet) (pair_with peer s.peers) (λ claims. refl))
 
   -- ---- answers
 
   settled_links : (t : TurnState) → LinksOf said taken t.pair → LinksOf said taken (settled_turn t).pair
-  settled_links t h = linked_settled said taken t.pair.busy (desk_of t.pair t.listening) h
+  settled_links t h = linked_settled said taken _ (desk_of t.pair t.listening) h
 
   fails : (peer : Host) (ph : Phase) (t : TurnState) → LinksOf said taken t.pair → LinksOf said taken (failed_by peer ph t).pair
   fails peer phase.Closed t h = h

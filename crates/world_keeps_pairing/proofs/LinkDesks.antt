@@ -55,11 +55,11 @@ module _ (said taken_claims : List Claim) where
   linked_settled busy d h =
       subst (λ (claims : List Claim). Links claims taken_claims (map (λ e. closed_when (must_close busy e) e) d.entries))
       (sym (claims_join d.queue _ said ∙ cls_claims (filter (must_close busy) d.entries) _))
-      (links_map (all_claims d.queue said) taken_claims _ d.entries
+      (links_map (all_claims d.queue said) taken_claims _ _
       (λ e. record { own = refl; foreign = refl; link = refl; mine = refl; partner = λ k. k; asked = λ k. k }) h)
 
   linked_swept : (peer : Host) (d : DeskState) → Linked said taken_claims d → Linked said taken_claims (swept peer d)
-  linked_swept peer d h = links_filter (all_claims d.queue said) taken_claims _ d.entries h
+  linked_swept peer d h = links_filter (all_claims d.queue said) taken_claims _ _ h
 
   -- an end that is refused has no link
   refused_joined : (own foreign stamp : ℕ) (claims taken : List Claim) (es : List Entry) → Links claims taken es → Links claims taken (es ++ refused_end own foreign stamp ∷ [])
@@ -69,7 +69,7 @@ module _ (said taken_claims : List Claim) where
 
   linked_refused : (own foreign stamp : ℕ) (d : DeskState) → Linked said taken_claims d → Linked said taken_claims (commands.refused own foreign stamp d)
   linked_refused own foreign stamp d h =
-      linked_queued (cls_of (refused_end own foreign stamp)) (entry_joined (refused_end own foreign stamp) d) (λ claims. refl) (refused_joined own foreign stamp _ taken_claims d.entries h)
+      linked_queued (cls_of (refused_end own foreign stamp)) (entry_joined (refused_end own foreign stamp) d) (λ claims. refl) (refused_joined own foreign stamp _ taken_claims _ h)
 
   -- a new receiving end, with its request
   pub receiver_joined : (own foreign link : ℕ) (e : Entry) (queue : List Command) (es : List Entry) → is_receive_socket own ≡ true → is_send_socket foreign ≡ true → e.own ≡ own → e.foreign ≡ foreign → e.link ≡ Some link → e.asked ≡ None
@@ -99,13 +99,13 @@ module _ (said taken_claims : List Claim) where
 
   linked_matched : (peer : Host) (own foreign : ℕ) (c : Command) (e : Entry) (change : Entry → Entry) (d : DeskState) → ((e : Entry) → IsQuiet e (change e)) → Linked said taken_claims d → Linked said taken_claims (matched_once peer own foreign c e change d)
   linked_matched peer own foreign c e change d q h =
-      linked_if _ _ _ (linked_error ERRONEOUS _ d h) (links_changed (all_claims d.queue said) taken_claims _ change d.entries q h)
+      linked_if _ _ _ (linked_error ERRONEOUS _ d h) (links_changed (all_claims d.queue said) taken_claims _ change _ q h)
 
   linked_str : (own foreign size stamp : ℕ) (l : Option ℕ) (d : DeskState) → is_receive_socket own ≡ true → is_send_socket foreign ≡ true → free_link d.entries ≡ l → entry_at own foreign d.entries ≡ None → Linked said taken_claims d
       → Linked said taken_claims (str_linked own foreign size stamp l d)
   linked_str own foreign size stamp None d even odd free none h = linked_refused own foreign stamp d h
   linked_str own foreign size stamp (Some link) d even odd free none h =
-      receiver_joined own foreign link _ d.queue d.entries even odd refl refl refl refl free none h
+      receiver_joined own foreign link _ d.queue _ even odd refl refl refl refl free none h
 
   linked_str_heard : (own foreign size stamp : ℕ) (l : Option Listener) (d : DeskState) → is_receive_socket own ≡ true → is_send_socket foreign ≡ true → entry_at own foreign d.entries ≡ None → Linked said taken_claims d → Linked said taken_claims (str_heard own foreign size stamp l d)
   linked_str_heard own foreign size stamp None d even odd none h = linked_refused own foreign stamp d h
@@ -119,10 +119,10 @@ module _ (said taken_claims : List Claim) where
   linked_closed : (peer : Host) (busy : List ℕ) (own foreign : ℕ) (e : Entry) (d : DeskState) → Linked said taken_claims d → Linked said taken_claims (closed_once peer busy own foreign e d)
   linked_closed peer busy own foreign e d h =
       let next : DeskState = changed (is_at own foreign) closed_by_partner d in
-      linked_if e.partner_closed d (swept peer (settled busy (changed (is_at own foreign) closed_by_partner d))) h
-      (linked_swept peer (settled busy (changed (is_at own foreign) closed_by_partner d))
-      (linked_settled busy (changed (is_at own foreign) closed_by_partner d)
-      (links_changed (all_claims d.queue said) taken_claims (is_at own foreign) closed_by_partner d.entries (λ x. record { own = refl; foreign = refl; link = refl; mine = refl; partner = λ k. k; asked = λ k. k }) h)))
+      linked_if _ d _ h
+      (linked_swept peer (settled busy (changed _ closed_by_partner d))
+      (linked_settled busy (changed _ closed_by_partner d)
+      (links_changed (all_claims d.queue said) taken_claims _ closed_by_partner _ (λ x. record { own = refl; foreign = refl; link = refl; mine = refl; partner = λ k. k; asked = λ k. k }) h)))
 
   linked_cls : (peer : Host) (busy : List ℕ) (own foreign : ℕ) (e : Option Entry) (d : DeskState) → Linked said taken_claims d → Linked said taken_claims (cls_taken_by peer busy own foreign e d)
   linked_cls peer busy own foreign None d h = linked_error NO_SOCKET (spelling (command.Cls foreign own)) d h
@@ -134,7 +134,7 @@ module _ (said taken_claims : List Claim) where
   linked_at c change (Open e) d k h = k e
 
   quiet_change : (test : Entry → Bool) (change : Entry → Entry) (d : DeskState) → ((e : Entry) → IsQuiet e (change e)) → Linked said taken_claims d → Linked said taken_claims (changed test change d)
-  quiet_change test change d q h = links_changed (all_claims d.queue said) taken_claims test change d.entries q h
+  quiet_change test change d q h = links_changed (all_claims d.queue said) taken_claims test change _ q h
 
   linked_ret : (link messages bits : ℕ) (e : Entry) (d : DeskState) → Linked said taken_claims d → Linked said taken_claims (ret_taken link messages bits e d)
   linked_ret link messages bits e d h =
@@ -149,8 +149,8 @@ module _ (said taken_claims : List Claim) where
 
   pub linked_other : (peer : Host) (busy : List ℕ) (stamp : ℕ) (c : Command) (d : DeskState) → IsOther c → Linked said taken_claims d → Linked said taken_claims (desk_taken peer busy stamp c d)
   linked_other peer busy stamp (command.Rts receive send link) d o h = absurd o
-  linked_other peer busy stamp (command.Str send receive size) d o h = linked_str_by peer receive send size stamp (entry_at receive send d.entries) d o.0 o.1 refl h
-  linked_other peer busy stamp (command.Cls own foreign) d o h = linked_cls peer busy foreign own (entry_at foreign own d.entries) d h
+  linked_other peer busy stamp (command.Str send receive size) d o h = linked_str_by peer receive send size stamp _ d o.0 o.1 refl h
+  linked_other peer busy stamp (command.Cls own foreign) d o h = linked_cls peer busy foreign own _ d h
   linked_other peer busy stamp (command.All link messages bits) d o h =
       linked_at (command.All link messages bits) (all_taken link messages bits) (sender_on link d) d (λ e. quiet_change (sends_on link) (commands.granted messages bits) d (λ x. record { own = refl; foreign = refl; link = refl; mine = refl; partner = λ k. k; asked = λ k. k }) h) h
   linked_other peer busy stamp (command.Gvb link messages bits) d o h =
@@ -159,7 +159,7 @@ module _ (said taken_claims : List Claim) where
   linked_other peer busy stamp (command.Ret link messages bits) d o h = linked_at (command.Ret link messages bits) (ret_taken link messages bits) (receiver_on link d) d (λ e. linked_ret link messages bits e d h) h
   linked_other peer busy stamp (command.Inr link) d o h = linked_at (command.Inr link) interrupted (sender_on link d) d (λ e. h) h
   linked_other peer busy stamp (command.Ins link) d o h = linked_at (command.Ins link) interrupted (receiver_on link d) d (λ e. h) h
-  linked_other peer busy stamp (command.Eco octet) d o h = linked_queued (command.Erp octet) d (λ claims. refl) h
+  linked_other peer busy stamp (command.Eco octet) d o h = linked_queued _ d (λ claims. refl) h
   linked_other peer busy stamp c d o h = h
 
   pub linked_wrong : (code : ℕ) (octets : List ℕ) (d : DeskState) → Linked said taken_claims d → Linked said taken_claims (command_queued (error code octets) d)
@@ -202,18 +202,18 @@ module _ (said taken_claims : List Claim) (own foreign link : ℕ) (odd : is_rec
   rts_heard_linked : (stamp : ℕ) (l : Option Listener) (d : DeskState) → entry_at own foreign d.entries ≡ None → Linked said taken_claims d → Linked said (record { sockets = record { receive = foreign; send = own }; link = link } ∷ taken_claims) (rts_heard own foreign link stamp l d)
   rts_heard_linked stamp None d none h =
       linked_queued said (record { sockets = record { receive = foreign; send = own }; link = link } ∷ taken_claims) (cls_of (refused_end own foreign stamp)) (entry_joined (refused_end own foreign stamp) d) (λ claims. refl)
-      (refused_joined said taken_claims own foreign stamp _ _ d.entries
-      (links_heard _ taken_claims own foreign link d.entries (none_found own foreign d.entries none) h))
+      (refused_joined said taken_claims own foreign stamp _ _ _
+      (links_heard _ taken_claims own foreign link _ (none_found own foreign _ none) h))
   rts_heard_linked stamp (Some l) d none h =
       linked_queued said (record { sockets = record { receive = foreign; send = own }; link = link } ∷ taken_claims) _ (entry_joined (asked_on_link stamp link (sending_end own foreign l.size)) (answered_on own d)) (λ claims. refl)
-      (rts_joined _ _ d.entries refl refl refl refl refl none h)
+      (rts_joined _ _ _ refl refl refl refl refl none h)
 
   rts_by_linked : (peer : Host) (stamp : ℕ) (o : Option Entry) (d : DeskState) → entry_at own foreign d.entries ≡ o → ((e : Entry) → o ≡ Some e → is_some e.partner ≡ false) → One (map (is_at own foreign) d.entries) → Linked said taken_claims d
       → Linked said (record { sockets = record { receive = foreign; send = own }; link = link } ∷ taken_claims) (rts_taken_by peer own foreign link stamp o d)
   rts_by_linked peer stamp None d f fresh one h = rts_heard_linked stamp _ d f h
   rts_by_linked peer stamp (Some e) d f fresh one h =
       subst (λ (b : Bool). Linked said (record { sockets = record { receive = foreign; send = own }; link = link } ∷ taken_claims) (if b then commands.faulted ERRONEOUS (command.Rts foreign own link) d else commands.matched peer own foreign (asked_on_link stamp link) d)) (sym (fresh e refl))
-      (links_linked _ taken_claims own foreign link _ d.entries odd even (λ x. (refl, refl, refl, refl, refl, refl)) one h)
+      (links_linked _ taken_claims own foreign link _ _ odd even (λ x. (refl, refl, refl, refl, refl, refl)) one h)
 
   pub rts_linked : (peer : Host) (stamp : ℕ) (d : DeskState) → list_any (sends_on link) d.entries ≡ false → ((e : Entry) → entry_at own foreign d.entries ≡ Some e → is_some e.partner ≡ false) → One (map (is_at own foreign) d.entries) → Linked said taken_claims d
       → Linked said (record { sockets = record { receive = foreign; send = own }; link = link } ∷ taken_claims) (rts_taken peer own foreign link stamp d)

@@ -1,7 +1,7 @@
 -- A message that goes out, and links: each RTS in it names one that no receiving end has.
 use Rattle.world_keeps_pairing.proofs.Common.{append_assoc, list_any, is_receive_socket, is_send_socket, Command, Closing, Entry, mark_of, marks, End, nothing, Mark, Ask, Close}
 use Rattle.std.proofs.Common.{◌≡◌, ◌⊎◌, inl, inr, ℕ, ◌==◌, Bool, true, ◌&&◌, if◌then◌else◌, List, [], ◌∷◌, ◌++◌, map, Option, Some, None, is_some, refl, ap, sym, subst, ◌∙◌, eq-eqb, false}
-use Rattle.host_pairs.specs.Entries.{is_at, is_link, receives_on}
+use Rattle.host_pairs.specs.Entries.{is_at, is_link}
 use Rattle.host_keeps_pairing.specs.Ends.{Stand, Standing, close_waits, request_due, standing, at}
 use Rattle.host_keeps_pairing.proofs.lemmas.{at_one, eqb-sym, live_end, sockets_of}
 use Rattle.pairing_law.specs.Links.{Sockets, Word, Receiver, Step, receiver, said_words, IsAmong, AreSteps, IsFreeLink}
@@ -59,7 +59,7 @@ pending_by : (s : Sockets) (r n link : ℕ) (base : List Claim) (b c : Bool) →
     → last_link s (if c then record { sockets = record { receive = r; send = n }; link = link } ∷ base else base) ≡ last_link s base
 pending_by s r n link base true c e h = absurd h
 pending_by s r n link base false true e h =
-    let off : (s.receive == r && s.send == n) ≡ false = ap (λ (t : Bool). t && s.send == n) (eqb-sym s.receive r) ∙ ap (λ (t : Bool). r == s.receive && t) (eqb-sym s.send n) ∙ e in
+    let off : (s.receive == r && s.send == n) ≡ false = ap (λ (t : Bool). t && s.send == n) (eqb-sym _ r) ∙ ap (λ (t : Bool). r == s.receive && t) (eqb-sym s.send n) ∙ e in
     ap (λ (t : Bool). if t then Some link else last_link s base) off
 pending_by s r n link base false false e h = refl
 
@@ -107,7 +107,7 @@ there_by origin own foreign es ws x h some = by (list_any (is_at own foreign) es
         rest = f.rest;
         is = f.is;
         here = f.on;
-        stand = stands_alone true origin 0 own foreign f.front f.end f.rest ws x f.on (subst (λ (l : List Entry). Stand true origin 0 (at own foreign l) ws x) f.is h);
+        stand = stands_alone true origin 0 own foreign _ f.end f.rest ws x f.on (subst (λ (l : List Entry). Stand true origin 0 (at own foreign l) ws x) f.is h);
       }
   by false e = let none : (ws ≡ []) × (x ≡ nothing) = subst (λ (ss : List Standing). Stand true origin 0 ss ws x) (none_any own foreign es e) h in absurd (some none.0 none.1)
 
@@ -153,15 +153,15 @@ module _ (origin : ℕ → ℕ) where
   pub is_free : (r n l : ℕ) (rest : List Command) (taken : List Claim) (es : List Entry) (xs : List Step) → is_receive_socket r ≡ true → is_send_socket n ≡ true → AreSteps xs → AllPairs (said_words Receiver xs)
       → Receives es (command.Rts r n l ∷ rest) xs → Links (all_claims (command.Rts r n l ∷ rest) (said_claims xs)) taken es → IsFreeLink l xs
   is_free r n l rest taken es xs even odd steps pairs ends h = λ s named.
-      let q : IsPair s = among_pair (record { sockets = s; link = l; mark = Ask named.0 }) (said_words Receiver xs) pairs named.2 in
+      let q : IsPair s = among_pair _ _ pairs named.2 in
       let all : List Claim = all_claims (command.Rts r n l ∷ rest) (said_claims xs) in
       let asks : There origin s.receive s.send es (marks 0 s.receive s.send (command.Rts r n l ∷ rest)) (receiver s xs).end =
-      there_by origin s.receive s.send es _ (receiver s xs).end (ends s q 0) (λ none is. absurd (let both : Some named.0 ≡ None = sym named.1 ∙ ap (λ (x : End). x.asked) is in cc)) in
+      there_by origin _ s.send es _ _ (ends s q 0) (λ none is. absurd (let both : Some named.0 ≡ None = sym named.1 ∙ ap (λ (x : End). x.asked) is in cc)) in
       let asked : asks.end.asked ≡ Some named.0 = sym (ap (λ (x : End). x.asked) (asks.stand.2 ∙ live_end origin (standing asks.end) (asks.stand.0.live refl))) ∙ named.1 in
       let none : NoAsk (marks 0 s.receive s.send (command.Rts r n l ∷ rest)) =
-      subst NoAsk (sym (asks.stand.1 ∙ ap (λ (o : Option ℕ). request_due 0 asks.end.mine o ++ close_waits asks.end.closing) asked)) (asked_none asks.end.mine named.0 asks.end.closing) in
-      let last : last_link s (all_claims (command.Rts r n l ∷ rest) (said_claims xs)) ≡ Some l = last_same s (command.Rts r n l ∷ rest) (said_claims xs) (said_claims xs) refl none ∙ asked_last s xs steps named.0 l (named.1, named.2) in
-      let s_is : (asks.end.own ≡ s.receive) × (asks.end.foreign ≡ s.send) = sockets_of s.receive s.send asks.end asks.here in
+      subst NoAsk (sym (asks.stand.1 ∙ ap (λ (o : Option ℕ). request_due 0 asks.end.mine o ++ close_waits asks.end.closing) asked)) (asked_none _ _ _) in
+      let last : last_link s (all_claims (command.Rts r n l ∷ rest) (said_claims xs)) ≡ Some l = last_same s (command.Rts r n l ∷ rest) _ _ refl none ∙ asked_last s xs steps _ l (named.1, named.2) in
+      let s_is : (asks.end.own ≡ s.receive) × (asks.end.foreign ≡ s.send) = sockets_of _ s.send asks.end asks.here in
       let owns : asks.end.mine ≡ true = each_split AsksOwn asks.front asks.end asks.rest (subst (λ (k : List Entry). Each AsksOwn k) asks.is h.own) (ap (λ (o : Option ℕ). is_some o) asked) in
       let even_e : is_receive_socket asks.end.own ≡ true = ap is_receive_socket s_is.0 ∙ q.0 in
       let one : is_link l asks.end.link ≡ true =
@@ -172,15 +172,15 @@ module _ (origin : ℕ → ℕ) where
       let t : Sockets = record { receive = r; send = n } in
       let mark : mark_of 0 r n (command.Rts r n l) ≡ Ask 0 ∷ [] = ap (λ (b : Bool). if b then Ask 0 ∷ [] else []) (ap (λ (b : Bool). b && n == n) (eq-eqb r r refl) ∙ eq-eqb n n refl) in
       let waits : Stand true origin 0 (at r n es) (Ask 0 ∷ marks 0 r n rest) (receiver (record { receive = r; send = n }) xs).end =
-      subst (λ (ms : List Mark). Stand true origin 0 (at r n es) (ms ++ marks 0 r n rest) (receiver (record { receive = r; send = n }) xs).end) mark (ends (record { receive = r; send = n }) (even, odd) 0) in
+      subst (λ (ms : List Mark). Stand true origin 0 (at r n es) (ms ++ marks 0 r n rest) (receiver (record { receive = r; send = n }) xs).end) mark (ends _ (even, odd) 0) in
       let goes : There origin r n es (Ask 0 ∷ marks 0 r n rest) (receiver (record { receive = r; send = n }) xs).end =
-      there_by origin r n es (Ask 0 ∷ marks 0 r n rest) (receiver (record { receive = r; send = n }) xs).end waits (λ none is. absurd (let both : Ask 0 ∷ marks 0 r n rest ≡ [] = none in cc)) in
-      let d : DueAsk goes.end.mine goes.end.asked (marks 0 r n rest) = due_ask goes.end.mine goes.end.asked goes.end.closing (marks 0 r n rest) goes.stand.1 in
+      there_by origin r n es _ _ waits (λ none is. absurd (let both : Ask 0 ∷ marks 0 r n rest ≡ [] = none in cc)) in
+      let d : DueAsk goes.end.mine goes.end.asked (marks 0 r n rest) = due_ask _ _ _ _ goes.stand.1 in
       let good : (is_receive_socket r && is_send_socket n) ≡ true = ap (λ (b : Bool). b && is_send_socket n) even ∙ odd in
       let first : last_link (record { receive = r; send = n }) (claim_of (command.Rts r n l) (said_claims xs)) ≡ Some l =
       ap (λ (b : Bool). last_link (record { receive = r; send = n }) (if b then record { sockets = record { receive = r; send = n }; link = l } ∷ said_claims xs else said_claims xs)) good ∙ claim_first (record { receive = r; send = n }) l (said_claims xs) in
       let later : last_link (record { receive = r; send = n }) (all_claims (command.Rts r n l ∷ rest) (said_claims xs)) ≡ Some l =
-      last_same (record { receive = r; send = n }) rest (claim_of (command.Rts r n l) (said_claims xs)) (claim_of (command.Rts r n l) (said_claims xs)) refl d.none ∙ first in
+      last_same _ rest _ _ refl d.none ∙ first in
       let t_is : (goes.end.own ≡ r) × (goes.end.foreign ≡ n) = sockets_of r n goes.end goes.here in
       let even_f : is_receive_socket goes.end.own ≡ true = ap is_receive_socket t_is.0 ∙ even in
       let two : is_link l goes.end.link ≡ true =
@@ -188,7 +188,7 @@ module _ (origin : ℕ → ℕ) where
       (ap (λ (k : ℕ). last_link (record { receive = k; send = goes.end.foreign }) (all_claims (command.Rts r n l ∷ rest) (said_claims xs))) t_is.0
       ∙ ap (λ (k : ℕ). last_link (record { receive = r; send = k }) (all_claims (command.Rts r n l ∷ rest) (said_claims xs))) t_is.1 ∙ later) in
       let same_end : asks.end ≡ goes.end =
-      one_same (receives_on l) es asks.end goes.end (h.single l) (subst (λ (k : List Entry). In asks.end k) (sym asks.is) (split_in asks.front asks.end asks.rest)) (subst (λ (k : List Entry). In goes.end k) (sym goes.is) (split_in goes.front goes.end goes.rest))
+      one_same _ es _ _ (h.single l) (subst (λ (k : List Entry). In asks.end k) (sym asks.is) (split_in _ _ _)) (subst (λ (k : List Entry). In goes.end k) (sym goes.is) (split_in _ _ _))
       (ap (λ (b : Bool). b && is_link l asks.end.link) even_e ∙ one) (ap (λ (b : Bool). b && is_link l goes.end.link) even_f ∙ two) in
       absurd (let no : Some named.0 ≡ None = sym asked ∙ ap (λ (e : Entry). e.asked) same_end ∙ d.unasked in cc)
 
@@ -196,7 +196,7 @@ module _ (origin : ℕ → ℕ) where
 
 mine_here : (origin : ℕ → ℕ) (own foreign : ℕ) (front : List Entry) (e : Entry) (rest : List Entry) (words : List Mark) (x : End) → Stand true origin 0 (at own foreign (front ++ e ∷ rest)) (Ask 0 ∷ words) x → is_at own foreign e ≡ true → e.mine ≡ true
 mine_here origin own foreign front e rest words x h t =
-    let one : Stand true origin 0 (standing e ∷ []) (Ask 0 ∷ words) x = stands_alone true origin 0 own foreign front e rest _ x t h in (due_ask e.mine e.asked e.closing words one.1).own
+    let one : Stand true origin 0 (standing e ∷ []) (Ask 0 ∷ words) x = stands_alone true origin 0 own foreign front e rest _ x t h in (due_ask e.mine _ _ words one.1).own
 
 mine_from : (origin : ℕ → ℕ) (own foreign : ℕ) (front rest : List Entry) (words : List Mark) (x : End) → Stand true origin 0 (at own foreign (front ++ rest)) (Ask 0 ∷ words) x → Each (λ e. is_at own foreign e ≡ true → e.mine ≡ true) rest
 mine_from origin own foreign front [] words x h = tt

@@ -1,8 +1,8 @@
 -- What goes out of a pair, and links.
 use Rattle.world_keeps_pairing.proofs.Common.{Host, Command, MayGo, Legal, Order, orders_of, desk_of, PairState, Listener, AreCommands, IsReadBack, untagged, MayAllGo, eqb-sym, untagged_is, AreSteps, Receiver, Sockets, Step, Who, Word, receiver, said_words, tagged, with_place, Message, Out, Pair, Agrees, message_on, data_away, NameFree, all_said, words_by, words_of}
-use Rattle.std.proofs.Common.{◌≡◌, ℕ, ◌==◌, zero, suc, Bool, true, false, ◌&&◌, if◌then◌else◌, List, [], ◌∷◌, ◌++◌, map, drop, Some, refl, ap, sym, subst, ◌∙◌, ◌*◌, take}
+use Rattle.std.proofs.Common.{◌≡◌, ℕ, ◌==◌, zero, suc, Bool, true, false, ◌&&◌, if◌then◌else◌, List, [], ◌∷◌, ◌++◌, map, drop, Some, refl, ap, sym, subst, ◌∙◌, take}
 use Rattle.std.proofs.lemmas.List.{append-nil, take-append-drop}
-use Rattle.host_pairs.specs.Parcels.{Parcel, commands_gone, link_for, link_of, next_of, pair_after, parcel_gone, text_for, bits_gone, may_send_on}
+use Rattle.host_pairs.specs.Parcels.{Parcel, commands_gone, link_for, link_of, next_of, pair_after, parcel_gone, text_for}
 use Rattle.host_pairs.proofs.lemmas.{what_goes, all_gone_queue}
 use Rattle.ncp_control.specs.declared.command.Command.TheVariants as command
 use Rattle.host_pairs.specs.Parcels as parcel
@@ -62,10 +62,10 @@ module _ (origin : ℕ → ℕ) (peer : Host) (stamp : ℕ) (taken : List Claim)
   parcel_links listening q parcel.Reset p xs a n back ok steps pairs r s may h = subst (λ (ws : List Word). NameFree ws xs × LinksOf (said_claims (all_said Receiver ws xs)) taken q) (sym (ap (words_by Receiver stamp) back)) (tt, h)
   parcel_links listening q parcel.Reply p xs a n back ok steps pairs r s may h = subst (λ (ws : List Word). NameFree ws xs × LinksOf (said_claims (all_said Receiver ws xs)) taken q) (sym (ap (words_by Receiver stamp) back)) (tt, h)
   parcel_links listening q (parcel.Bytes e size count) p xs a n back ok steps pairs r s may h =
-      let go : MayGo q (parcel.Bytes e size count) = what_goes q (parcel.Bytes e size count) n in
+      let go : MayGo q (parcel.Bytes e size count) = what_goes q _ n in
       let away : (link_of e.link == 0) ≡ false = data_away q e size count a.linked go.1.linked n in
       subst (λ (z : Bool). Went (if z then words_by Receiver stamp (orders_of (text_for q (parcel.Bytes e size count))) else []) xs (pair_after (parcel.Bytes e size count) q (parcel_gone peer stamp q.busy (parcel.Bytes e size count) (desk_of q listening)))) (sym away)
-      (tt, links_changed (all_claims q.queue (said_claims xs)) taken (may_send_on q.busy (link_of e.link)) (bits_gone (size * count)) q.entries (λ y. record { own = refl; foreign = refl; link = refl; mine = refl; partner = λ k. k; asked = λ k. k }) h)
+      (tt, links_changed (all_claims q.queue (said_claims xs)) taken _ _ _ (λ y. record { own = refl; foreign = refl; link = refl; mine = refl; partner = λ k. k; asked = λ k. k }) h)
   parcel_links listening q (parcel.Commands count) p xs a n back ok steps pairs r s may h =
       let cs : List Command = take count q.queue in
       let rest : List Command = drop count q.queue in
@@ -73,12 +73,12 @@ module _ (origin : ℕ → ℕ) (peer : Host) (stamp : ℕ) (taken : List Claim)
       let read : words_by Receiver stamp (orders_of (text_for q (parcel.Commands count))) ≡ words_by Receiver stamp (map Legal (take count q.queue)) = ap (words_by Receiver stamp) back in
       let k : NameFree (words_by Receiver stamp (map Legal (take count q.queue))) xs
       × Links (all_claims (drop count q.queue) (said_claims (all_said Receiver (words_by Receiver stamp (map Legal (take count q.queue))) xs))) taken (commands_gone peer stamp (take count q.queue) (desk_of q listening)).entries =
-      commands_links origin origin peer stamp taken cs rest (desk_of q listening) xs (some_commands count q.queue ok) steps pairs
+      commands_links origin origin peer stamp taken cs rest _ xs (some_commands count _ ok) steps pairs
       (subst (λ (l : List Command). Receives origin q.entries l xs) (sym whole) r) (subst (λ (l : List Command). Sends origin origin peer stamp taken q.entries l) (sym whole) s)
       (λ t u. subst (λ (ws : List Word). MayAllGo (words.at t ws) (receiver t xs).end (receiver t xs).next) read (may t u))
       (subst (λ (l : List Command). Links (all_claims l (said_claims xs)) taken q.entries) (sym whole) h) in
       subst (λ (ws : List Word). Went ws xs (pair_after (parcel.Commands count) q (parcel_gone peer stamp q.busy (parcel.Commands count) (desk_of q listening)))) (sym read) (
         k.0,
         subst (λ (l : List Command). Links (all_claims (drop count l) (said_claims (all_said Receiver (words_by Receiver stamp (map Legal (take count q.queue))) xs))) taken (commands_gone peer stamp (take count q.queue) (desk_of q listening)).entries)
-            (sym (all_gone_queue peer stamp cs (desk_of q listening))) k.1,
+            (sym (all_gone_queue peer stamp cs _)) k.1,
       )

@@ -1,7 +1,7 @@
 -- All commands of a message that goes out, and links.
 use Rattle.world_keeps_pairing.proofs.Common.{◌≡◌, ℕ, ◌==◌, Bool, true, false, not, ◌&&◌, if◌then◌else◌, List, [], ◌∷◌, ◌++◌, map, refl, ap, sym, subst, ◌∙◌, eq-eqb, Host, IsCommand, is_receive_socket, is_send_socket, Command, Legal, Entry, AreCommands, MayAllGo, all_gone, mark_of, marks, End, gone, Mark, Ask, Close, Sockets, Word, Receiver, Step, Says, receiver, said_words, stays, AreSteps, NameFree, all_said, word_by, words_by}
 use Rattle.host_pairs.specs.Desk.{DeskState}
-use Rattle.host_pairs.specs.Entries.{changed_at, is_at, is_over}
+use Rattle.host_pairs.specs.Entries.{changed_at, is_over}
 use Rattle.host_pairs.specs.Parcels.{commands_gone, asked_at, cls_sent, command_gone}
 use Rattle.host_keeps_pairing.specs.Ends.{Stand, at}
 use Rattle.pairing_law.specs.Sides.{Side, says, above}
@@ -93,11 +93,11 @@ module _ (origin other : ℕ → ℕ) (peer : Host) (stamp : ℕ) (taken : List 
       links_asked claims taken a b _ es (λ e. (refl, refl, refl, refl, refl)) (one_at true o 0 a b es _ x waits) (mine_by o a b es words x waits) k
 
   one_links : (c : Command) (rest : List Command) (d : DeskState) (xs : List Step) (claims : List Claim) → IsCommand c → Receives origin d.entries (c ∷ rest) xs → Sends d.entries (c ∷ rest) → Links claims taken d.entries → Links claims taken (command_gone peer stamp c d).entries
-  one_links (command.Rts a b l) rest d xs claims ok r s h = asked_gone origin a b claims d.entries _ _ (r (record { receive = a; send = b }) (ok.1, ok.3) 0) h
-  one_links (command.Str a b size) rest d xs claims ok r s h = asked_gone other a b claims d.entries _ _ (s (record { receive = b; send = a }) (ok.3, ok.1) 0).1 h
+  one_links (command.Rts a b l) rest d xs claims ok r s h = asked_gone origin a b claims _ _ _ (r (record { receive = a; send = b }) (ok.1, ok.3) 0) h
+  one_links (command.Str a b size) rest d xs claims ok r s h = asked_gone other a b claims _ _ _ (s (record { receive = b; send = a }) (ok.3, ok.1) 0).1 h
   one_links (command.Cls a b) rest d xs claims ok r s h =
       links_filter claims taken _ _
-      (links_changed claims taken (is_at a b) cls_sent d.entries (λ e. record { own = refl; foreign = refl; link = refl; mine = refl; partner = λ k. k; asked = λ k. k }) h)
+      (links_changed claims taken _ cls_sent _ (λ e. record { own = refl; foreign = refl; link = refl; mine = refl; partner = λ k. k; asked = λ k. k }) h)
   one_links c rest d xs claims ok r s h = h
 
   receives_next : (c : Command) (rest : List Command) (d : DeskState) (xs : List Step) → IsCommand c → Receives origin d.entries (c ∷ rest) xs → Receives origin (command_gone peer stamp c d).entries rest (all_said Receiver (word_by Receiver stamp (Legal c)) xs)
@@ -106,7 +106,7 @@ module _ (origin other : ℕ → ℕ) (peer : Host) (stamp : ℕ) (taken : List 
       ap (λ (x : Side). x.end) (receiver_says s (word_by Receiver stamp (Legal c)) xs) ∙ says_end (words.at s (word_by Receiver stamp (Legal c))) (receiver s xs)
       ∙ ap (λ (ms : List Mark). all_gone ms (receiver s xs).end) (order_at s q Receiver stamp (Legal c) ok) in
       subst (λ (x : End). Stand true origin place (at s.receive s.send (command_gone peer stamp c d).entries) (marks place s.receive s.send rest) x) (sym end)
-      (one_gone origin s.receive s.send place peer stamp c d (marks place s.receive s.send rest) (receiver s xs).end (r s q place))
+      (one_gone origin s.receive s.send place peer stamp c d _ _ (r s q place))
 
   sends_next : (c : Command) (rest : List Command) (d : DeskState) → Sends d.entries (c ∷ rest) → Sends (command_gone peer stamp c d).entries rest
   sends_next c rest d r = λ s q place. (
@@ -126,7 +126,7 @@ module _ (origin other : ℕ → ℕ) (peer : Host) (stamp : ℕ) (taken : List 
       let split : (t : Sockets) → IsPair t → MayAllGo (words.at t (word_by Receiver stamp (Legal c))) (receiver t xs).end (receiver t xs).next
       × MayAllGo (words.at t (words_by Receiver stamp (map Legal cs))) (all_gone (words.at t (word_by Receiver stamp (Legal c))) (receiver t xs).end) (all_above (words.at t (word_by Receiver stamp (Legal c))) (receiver t xs).next) =
       λ t q. may_split (words.at t ws) (words.at t vs) (receiver t xs).end (receiver t xs).next (subst (λ (ms : List Mark). MayAllGo ms (receiver t xs).end (receiver t xs).next) (at_join t ws vs) (may t q)) in
-      let free : NameFree (word_by Receiver stamp (Legal c)) xs = one_free c (cs ++ rest) d.entries xs ok.0 steps pairs r h in
+      let free : NameFree (word_by Receiver stamp (Legal c)) xs = one_free c (cs ++ rest) _ xs ok.0 steps pairs r h in
       let more : AreSteps (all_said Receiver (word_by Receiver stamp (Legal c)) xs) = receiver_speaks ws xs (order_pairs Receiver stamp (Legal c)) steps (λ t q. (split t q).0) free in
       let goes : (t : Sockets) → IsPair t → MayAllGo (words.at t (words_by Receiver stamp (map Legal cs))) (receiver t ys).end (receiver t ys).next =
       λ t q. (let is : receiver t (all_said Receiver (word_by Receiver stamp (Legal c)) xs) ≡ all_says (words.at t (word_by Receiver stamp (Legal c))) (receiver t xs) = receiver_says t ws xs in
@@ -135,7 +135,7 @@ module _ (origin other : ℕ → ℕ) (peer : Host) (stamp : ℕ) (taken : List 
       (subst (λ (x : End). MayAllGo (words.at t (words_by Receiver stamp (map Legal cs))) x (all_above (words.at t (word_by Receiver stamp (Legal c))) (receiver t xs).next)) (sym (says_end (words.at t ws) (receiver t xs))) (split t q).1))) in
       let links : Links (all_claims (cs ++ rest) (said_claims (all_said Receiver (word_by Receiver stamp (Legal c)) xs))) taken (command_gone peer stamp c d).entries =
       subst (λ (claims : List Claim). Links (all_claims (cs ++ rest) claims) taken (command_gone peer stamp c d).entries) (sym (claims_next stamp c xs))
-      (one_links c (cs ++ rest) d xs (all_claims (cs ++ rest) (claim_of c (said_claims xs))) ok.0 r s h) in
+      (one_links c (cs ++ rest) d xs _ ok.0 r s h) in
       let k : NameFree (words_by Receiver stamp (map Legal cs)) ys × Links (all_claims rest (said_claims (all_said Receiver (words_by Receiver stamp (map Legal cs)) ys))) taken (commands_gone peer stamp cs (command_gone peer stamp c d)).entries =
       commands_links cs rest (command_gone peer stamp c d) ys ok.1 more (said_pairs ws xs (order_pairs Receiver stamp (Legal c)) pairs) (receives_next c (cs ++ rest) d xs ok.0 r) (sends_next c (cs ++ rest) d s) goes links in (
         name_join ws vs xs free k.0,

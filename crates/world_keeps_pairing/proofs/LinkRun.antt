@@ -49,16 +49,16 @@ module _ (hosts : Network) (origin : Host → Host → ℕ → ℕ) where
   out_names a b m moments ours story ranged t true true e f = (out_here origin hosts a b m moments ours story ranged (t.tied a b ours) (t.tied b a (ours.1, ours.0)) (t.linked a b ours) e f).0
   out_names a b m moments ours story ranged t true false e f =
       subst (λ (ts : List (List Bool)). NameFree (words_of Receiver ts) (all_said Sender (words_of Sender (stay.said_by b a 0 (placed_event (event_of (crossing.Out m)) (events_of moments)))) (steps a b (law_events moments))))
-      (sym (said_off a b m.flow.source m.flow.destination m.flow.link.0 (with_place (place (events_of moments)) (message_on m.flow.link.0 m.text)) (and_right (same_host a m.flow.source) (same_host b m.flow.destination) f))) tt
+      (sym (said_off a b _ _ _ _ (and_right (same_host a m.flow.source) (same_host b m.flow.destination) f))) tt
   out_names a b m moments ours story ranged t false d e f =
       subst (λ (ts : List (List Bool)). NameFree (words_of Receiver ts) (all_said Sender (words_of Sender (stay.said_by b a 0 (placed_event (event_of (crossing.Out m)) (events_of moments)))) (steps a b (law_events moments))))
-      (sym (said_off a b m.flow.source m.flow.destination m.flow.link.0 (with_place (place (events_of moments)) (message_on m.flow.link.0 m.text)) (ap (λ (x : Bool). x && same_host b m.flow.destination) e))) tt
+      (sym (said_off a b _ _ _ _ (ap (λ (x : Bool). x && same_host b m.flow.destination) e))) tt
 
   out_quiet : (a b : Host) (m : HostMessage) (moments : List Moment) → are a b m.flow.source m.flow.destination ≡ false → LinksOf (said_claims (steps a b (law_events moments))) (heard_claims (steps b a (law_events moments))) (pair_with b (program a (Crossed (crossing.Out m) ∷ moments)).peers)
       → Linked a b (Crossed (crossing.Out m) ∷ moments)
   out_quiet a b m moments off k =
       as_before a b (placed_event (event_of (crossing.Out m)) (events_of moments)) (law_events moments) (pair_with b (program a (Crossed (crossing.Out m) ∷ moments)).peers)
-      (said_off a b m.flow.source m.flow.destination m.flow.link.0 (with_place (place (events_of moments)) (message_on m.flow.link.0 m.text)) off) refl k
+      (said_off a b _ _ m.flow.link.0 (with_place (place (events_of moments)) (message_on m.flow.link.0 m.text)) off) refl k
 
   out_linked : (a b : Host) (m : HostMessage) (moments : List Moment) → AreOurs hosts a b → IsStory hosts (Crossed (crossing.Out m) ∷ moments) → ((h : Host) → hosts.strange h ≡ false → IsRanged (program h moments)) → AllTied hosts origin moments → (c d : Bool) → same_host a m.flow.source ≡ c → same_host b m.flow.destination ≡ d
       → Linked a b (Crossed (crossing.Out m) ∷ moments)
@@ -69,18 +69,18 @@ module _ (hosts : Network) (origin : Host → Host → ℕ → ℕ) where
       (heard_claims (steps b a (law_events moments))) (pair_with b (offered (program a moments) (places moments)).0.peers) = (out_here origin hosts a b m moments ours story ranged (t.tied a b ours) (t.tied b a (ours.1, ours.0)) (t.linked a b ours) e f).1 in
       let said : said_claims (steps a b (law_events (Crossed (crossing.Out m) ∷ moments))) ≡ said_claims (all_said Receiver ws (all_said Sender vs (steps a b (law_events moments)))) =
       said_next a b (placed_event (event_of (crossing.Out m)) (events_of moments)) (law_events moments)
-      ∙ sym (said_upon ws (all_said Sender vs (steps a b (law_events moments))) (steps a b (law_events moments)) (sender_said vs (steps a b (law_events moments)))) in
+      ∙ sym (said_upon ws _ (steps a b (law_events moments)) (sender_said vs (steps a b (law_events moments)))) in
       let heard : heard_claims (steps b a (law_events (Crossed (crossing.Out m) ∷ moments))) ≡ heard_claims (steps b a (law_events moments)) =
-      heard_next b a (placed_event (event_of (crossing.Out m)) (events_of moments)) (law_events moments) ∙ ap heard_claims (heard_nothing (stay.stays a b (law_events moments)) (steps b a (law_events moments))) in
+      heard_next b a (placed_event (event_of (crossing.Out m)) (events_of moments)) (law_events moments) ∙ ap heard_claims (heard_nothing (stay.stays a b (law_events moments)) _) in
       subst (λ (cs : List Claim). LinksOf cs (heard_claims (steps b a (law_events (Crossed (crossing.Out m) ∷ moments)))) (pair_with b (program a (Crossed (crossing.Out m) ∷ moments)).peers)) (sym said)
       (subst (λ (cs : List Claim). LinksOf (said_claims (all_said Receiver ws (all_said Sender vs (steps a b (law_events moments))))) cs (pair_with b (program a (Crossed (crossing.Out m) ∷ moments)).peers)) (sym heard)
       (subst (λ (x : Bool). LinksOf (said_claims (all_said Receiver ws (all_said Sender vs (steps a b (law_events moments))))) (heard_claims (steps b a (law_events moments))) (pair_with b (if x then (offered (program a moments) (places moments)).0 else program a moments).peers)) (sym e) k))
   out_linked a b m moments ours story ranged t true false e f =
-      let n : IsNext (program a moments) m = subst (λ (y : Host). IsNext (program y moments) m) (sym (same_host-true a m.flow.source e)) (story.0 (subst (λ (y : Host). hosts.strange y ≡ false) (same_host-true a m.flow.source e) ours.0)) in
+      let n : IsNext (program a moments) m = subst (λ (y : Host). IsNext (program y moments) m) (sym (same_host-true a _ e)) (story.0 (subst (λ (y : Host). hosts.strange y ≡ false) (same_host-true a _ e) ours.0)) in
       let away : same_host b n.peer.host ≡ false = ap (λ (y : HostMessage). same_host b y.flow.destination) (sym n.message) ∙ f in
       out_quiet a b m moments (and_right (same_host a m.flow.source) (same_host b m.flow.destination) f)
-      (if_links _ _ b (same_host a m.flow.source) (offered (program a moments) (places moments)).0 (program a moments)
-      (λ x. subst (λ (p : PairState). LinksOf (said_claims (steps a b (law_events moments))) (heard_claims (steps b a (law_events moments))) p) (sym (offer_leaves (program a moments) (places moments) n.peer n.parcel b n.next away)) (t.linked a b ours)) (t.linked a b ours))
+      (if_links _ _ b _ _ _
+      (λ x. subst (λ (p : PairState). LinksOf (said_claims (steps a b (law_events moments))) (heard_claims (steps b a (law_events moments))) p) (sym (offer_leaves (program a moments) (places moments) n.peer _ b n.next away)) (t.linked a b ours)) (t.linked a b ours))
   out_linked a b m moments ours story ranged t false d e f =
       out_quiet a b m moments (ap (λ (x : Bool). x && same_host b m.flow.destination) e)
       (subst (λ (x : Bool). LinksOf (said_claims (steps a b (law_events moments))) (heard_claims (steps b a (law_events moments))) (pair_with b (if x then (offered (program a moments) (places moments)).0 else program a moments).peers)) (sym e) (t.linked a b ours))
@@ -91,16 +91,16 @@ module _ (hosts : Network) (origin : Host → Host → ℕ → ℕ) where
       → Linked a b (Crossed (crossing.In m) ∷ moments)
   in_quiet a b m moments off k =
       as_before a b (placed_event (event_of (crossing.In m)) (events_of moments)) (law_events moments) (pair_with b (program a (Crossed (crossing.In m) ∷ moments)).peers) refl
-      (heard_off_in a b m.flow.source m.flow.destination m.flow.link.0 (with_box (boxes m.flow.source m.flow.destination (events_of moments) m.flow.link.0) (message_on m.flow.link.0 m.text)) off) k
+      (heard_off_in a b _ _ m.flow.link.0 (with_box (boxes m.flow.source m.flow.destination (events_of moments) m.flow.link.0) (message_on m.flow.link.0 m.text)) off) k
 
   in_links : (a b : Host) (m : HostMessage) (moments : List Moment) → AreOurs hosts a b → IsStory hosts (Crossed (crossing.In m) ∷ moments) → IsRun hosts (events_of (Crossed (crossing.In m) ∷ moments)) → ((h : Host) → hosts.strange h ≡ false → IsRanged (program h moments)) → IsOrigin origin (Crossed (crossing.In m)) moments → AllTied hosts origin moments
       → (c d : Bool) → same_host a m.flow.destination ≡ c → same_host b m.flow.source ≡ d → Linked a b (Crossed (crossing.In m) ∷ moments)
   in_links a b m moments ours story run ranged from t true true e f =
-      subst (λ (y : Host). Linked y b (Crossed (crossing.In m) ∷ moments)) (sym (same_host-true a m.flow.destination e))
-      (subst (λ (y : Host). Linked m.flow.destination y (Crossed (crossing.In m) ∷ moments)) (sym (same_host-true b m.flow.source f))
-      (in_linked origin hosts m moments (subst (λ (y : Host). hosts.strange y ≡ false) (same_host-true b m.flow.source f) ours.1, subst (λ (y : Host). hosts.strange y ≡ false) (same_host-true a m.flow.destination e) ours.0) story run ranged from
-      (t.tied m.flow.source m.flow.destination (subst (λ (y : Host). hosts.strange y ≡ false) (same_host-true b m.flow.source f) ours.1, subst (λ (y : Host). hosts.strange y ≡ false) (same_host-true a m.flow.destination e) ours.0))
-      (t.linked m.flow.destination m.flow.source (subst (λ (y : Host). hosts.strange y ≡ false) (same_host-true a m.flow.destination e) ours.0, subst (λ (y : Host). hosts.strange y ≡ false) (same_host-true b m.flow.source f) ours.1))))
+      subst (λ (y : Host). Linked y b (Crossed (crossing.In m) ∷ moments)) (sym (same_host-true a _ e))
+      (subst (λ (y : Host). Linked m.flow.destination y (Crossed (crossing.In m) ∷ moments)) (sym (same_host-true b _ f))
+      (in_linked origin hosts m moments (subst (λ (y : Host). hosts.strange y ≡ false) (same_host-true b _ f) ours.1, subst (λ (y : Host). hosts.strange y ≡ false) (same_host-true a _ e) ours.0) story run ranged from
+      (t.tied m.flow.source m.flow.destination (subst (λ (y : Host). hosts.strange y ≡ false) (same_host-true b _ f) ours.1, subst (λ (y : Host). hosts.strange y ≡ false) (same_host-true a _ e) ours.0))
+      (t.linked m.flow.destination m.flow.source (subst (λ (y : Host). hosts.strange y ≡ false) (same_host-true a _ e) ours.0, subst (λ (y : Host). hosts.strange y ≡ false) (same_host-true b _ f) ours.1))))
   in_links a b m moments ours story run ranged from t true false e f =
       in_quiet a b m moments (ap (λ (x : Bool). x && same_host a m.flow.destination) f)
       (if_links _ _ b (same_host a m.flow.destination) (accepted (program a moments) (inbound.Message m) (places moments)).0 (program a moments)
@@ -112,7 +112,7 @@ module _ (hosts : Network) (origin : Host → Host → ℕ → ℕ) where
   -- ---- each moment
 
   names : (a b : Host) (x : Moment) (moments : List Moment) → AreOurs hosts a b → IsStory hosts (x ∷ moments) → ((h : Host) → hosts.strange h ≡ false → IsRanged (program h moments)) → AllTied hosts origin moments → NamesFreeAt a b x moments
-  names a b (Crossed (crossing.Out m)) moments ours story ranged t = out_names a b m moments ours story ranged t (same_host a m.flow.source) (same_host b m.flow.destination) refl refl
+  names a b (Crossed (crossing.Out m)) moments ours story ranged t = out_names a b m moments ours story ranged t _ _ refl refl
   names a b (Crossed c) moments ours story ranged t = tt
   names a b (Asked g r) moments ours story ranged t =
       by_request (λ e. NameFree (words_of Receiver (stay.said_by a b 0 (placed_event e (events_of moments)))) (all_said Sender (words_of Sender (stay.said_by b a 0 (placed_event e (events_of moments)))) (steps a b (law_events moments)))) g r (λ peer. tt) tt
@@ -178,7 +178,7 @@ module _ (o f : ℕ) (even : is_receive_socket o ≡ true) (odd : is_send_socket
     by false c e = refl
     by true true e =
         let parts : ((o == r) ≡ true) × ((f == n) ≡ true) = both (o == r) (f == n) e in
-        let here : (r == o && n == f) ≡ true = both_on (r == o) (n == f) (eq-eqb r o (sym (eqb-true o r parts.0))) (eq-eqb n f (sym (eqb-true f n parts.1))) in
+        let here : (r == o && n == f) ≡ true = both_on _ _ (eq-eqb r o (sym (eqb-true o r parts.0))) (eq-eqb n f (sym (eqb-true f n parts.1))) in
         let one : 1 ≡ 0 = sym (ap (λ (t : Bool). asks (if t then Ask 0 ∷ [] else [])) here) ∙ none in
         absurd (omega (arith, one))
     by true false e = rw e refl
@@ -196,7 +196,7 @@ module _ (o f : ℕ) (even : is_receive_socket o ≡ true) (odd : is_send_socket
   last_queued l (c ∷ cs) claims zero less is few =
       subst (λ (x : Command). asks (marks 0 o f (x ∷ cs)) ≤ 1 → last_link s (all_claims cs (claim_of x claims)) ≡ Some l) (sym is) here few where
         asked : asks (mark_of 0 o f (command.Rts o f l)) ≡ 1
-        asked = ap (λ (t : Bool). asks (if t then Ask 0 ∷ [] else [])) (both_on (o == o) (f == f) (eq-eqb o o refl) (eq-eqb f f refl))
+        asked = ap (λ (t : Bool). asks (if t then Ask 0 ∷ [] else [])) (both_on _ _ (eq-eqb o o refl) (eq-eqb f f refl))
 
         first : last_link s (claim_of (command.Rts o f l) claims) ≡ Some l
         first =
@@ -236,11 +236,11 @@ link_known l (Some k) e = ap (λ (n : ℕ). Some n) (eqb-true k l e)
 few : (origin : ℕ → ℕ) (q : PairState) (e : Entry) (x : End) → HasEnd origin e.own e.foreign q x → Among q.entries e → asks (marks 0 e.own e.foreign q.queue) ≤ 1
 few origin q e x h i =
     let one : Stand true origin 0 (standing e ∷ []) (marks 0 e.own e.foreign q.queue) x =
-    stands_alone true origin 0 e.own e.foreign i.front e i.rest _ x (own_at e) (subst (λ (xs : List Entry). Stand true origin 0 (at e.own e.foreign xs) (marks 0 e.own e.foreign q.queue) x) i.is (h.ends 0)) in
+    stands_alone true origin 0 e.own _ _ e i.rest _ x (own_at e) (subst (λ (xs : List Entry). Stand true origin 0 (at e.own e.foreign xs) (marks 0 e.own e.foreign q.queue) x) i.is (h.ends 0)) in
     let parts : asks (request_due 0 e.mine e.asked ++ close_waits e.closing) ≡ asks (request_due 0 e.mine e.asked) + asks (close_waits e.closing) = asks_append (request_due 0 e.mine e.asked) _ in
     let all : asks (marks 0 e.own e.foreign q.queue) ≡ asks (request_due 0 e.mine e.asked ++ close_waits e.closing) = ap asks one.1 in
-    let first : asks (request_due 0 e.mine e.asked) ≤ 1 = one_due e.mine e.asked in
-    let none : asks (close_waits e.closing) ≡ 0 = none_in_close e.closing in
+    let first : asks (request_due 0 e.mine e.asked) ≤ 1 = one_due e.mine _ in
+    let none : asks (close_waits e.closing) ≡ 0 = none_in_close _ in
     omega (arith, parts, all, first, none)
 
 -- and for two sockets, whether there is an end of theirs or not
@@ -251,8 +251,8 @@ once_by origin own foreign q x h = by (at own foreign q.entries) (marks 0 own fo
   by (s ∷ []) words i =
       let parts : asks (request_due 0 s.mine s.asked ++ close_waits s.closing) ≡ asks (request_due 0 s.mine s.asked) + asks (close_waits s.closing) = asks_append (request_due 0 s.mine s.asked) _ in
       let all : asks words ≡ asks (request_due 0 s.mine s.asked ++ close_waits s.closing) = ap asks i.1 in
-      let first : asks (request_due 0 s.mine s.asked) ≤ 1 = one_due s.mine s.asked in
-      let none : asks (close_waits s.closing) ≡ 0 = none_in_close s.closing in
+      let first : asks (request_due 0 s.mine s.asked) ≤ 1 = one_due s.mine _ in
+      let none : asks (close_waits s.closing) ≡ 0 = none_in_close _ in
       omega (arith, parts, all, first, none)
   by (s ∷ t ∷ more) words i = absurd i
 
@@ -279,19 +279,19 @@ module _ (hosts : Network) (moments : List Moment) (addresses : HaveAddresses ho
       let first : last_link (record { receive = own; send = foreign }) (all_claims (pair_with b (program a moments).peers).queue []) ≡ Some l =
       last_queued own foreign is.1 is.3 l _ [] one.0 one.1 one.2 once in
       let second : last_link (record { receive = own; send = foreign }) (all_claims (pair_with b (program a moments).peers).queue []) ≡ Some k =
-      last_queued own foreign is.1 is.3 k _ [] other.0 other.1 other.2 once in
+      last_queued own foreign is.1 is.3 k _ [] _ other.1 other.2 once in
       let both : Some l ≡ Some k = sym first ∙ second in
       cc
 
   pub queued_link : (a b : Host) → AreOurs hosts a b → (l : ℕ) (e : Entry) → Contains (pair_with b (program a moments).peers).queue (command.Rts e.own e.foreign l) → Contains (pair_with b (program a moments).peers).entries e → e.mine ≡ true → e.link ≡ Some l
   queued_link a b ours l e waits there mine =
-      let is : IsCommand (command.Rts e.own e.foreign l) = command_at (pair_with b (program a moments).peers).queue (command.Rts e.own e.foreign l) waits.0 waits.1 waits.2 (queued_commands a b ours) in
-      let i : Among (pair_with b (program a moments).peers).entries e = among_at (pair_with b (program a moments).peers).entries e there.0 there.1 there.2 in
+      let is : IsCommand (command.Rts e.own e.foreign l) = command_at _ _ _ waits.1 waits.2 (queued_commands a b ours) in
+      let i : Among (pair_with b (program a moments).peers).entries e = among_at _ e _ there.1 there.2 in
       let once : asks (marks 0 e.own e.foreign (pair_with b (program a moments).peers).queue) ≤ 1 =
-      few (origin_in (crossings_of moments) a b) (pair_with b (program a moments).peers) e _ ((tied.tied a b ours).receiver (record { receive = e.own; send = e.foreign }) (is.1, is.3)) i in
+      few _ _ e _ ((tied.tied a b ours).receiver (record { receive = e.own; send = e.foreign }) (is.1, is.3)) i in
       let last : last_link (record { receive = e.own; send = e.foreign }) (all_claims (pair_with b (program a moments).peers).queue (said_claims (steps a b (law_events moments)))) ≡ Some l =
-      last_queued e.own e.foreign is.1 is.3 l (pair_with b (program a moments).peers).queue (said_claims (steps a b (law_events moments))) waits.0 waits.1 waits.2 once in
+      last_queued e.own e.foreign is.1 is.3 l _ _ _ waits.1 waits.2 once in
       let names : ReceivesBy (all_claims (pair_with b (program a moments).peers).queue (said_claims (steps a b (law_events moments)))) e =
-      each_split (ReceivesBy (all_claims (pair_with b (program a moments).peers).queue (said_claims (steps a b (law_events moments))))) i.front e i.rest
+      each_split (ReceivesBy (all_claims (pair_with b (program a moments).peers).queue (said_claims (steps a b (law_events moments))))) _ e i.rest
       (subst (λ (xs : List Entry). Each (ReceivesBy (all_claims (pair_with b (program a moments).peers).queue (said_claims (steps a b (law_events moments))))) xs) i.is (tied.linked a b ours).names) in
       link_known l e.link (names is.1 mine l last)

@@ -1,5 +1,5 @@
 -- Two programs with all that crosses between them: links are free, and all is tied to the law.
-use Rattle.world_keeps_pairing.proofs.Common.{◌≡◌, ℕ, ◌==◌, Bool, true, false, ◌&&◌, if◌then◌else◌, List, [], ◌∷◌, Some, refl, ap, sym, subst, ◌∙◌, Host, same_host, HostMessage, same_host-refl, same_host-true, Order, orders_of, desk_of, PairState, IsRanged, offer_read, pair_range, text_good, MayAllGo, marks, AreFree, AreJoint, NcpState, pair_with, Peer, End, Side, AreSteps, Receiver, Sender, Sockets, Step, Word, receiver, said_words, placed_event, tagged, with_place, Event, Message, Other, Out, Reply, Reset, are, place, In, pair, Agrees, event_of, message_on, IsApart, Crossed, IsNext, IsStory, Moment, events_of, places, program, program_own, story_agrees, NameFree, TakesFreeAt, law_events, all_heard, all_said, heard_in, onto, steps, words_by, words_of, Waiting, boxes, AreOurs, Network}
+use Rattle.world_keeps_pairing.proofs.Common.{◌≡◌, ℕ, ◌==◌, Bool, true, false, ◌&&◌, if◌then◌else◌, List, [], ◌∷◌, Some, refl, ap, sym, subst, ◌∙◌, Host, same_host, HostMessage, same_host-refl, same_host-true, Order, orders_of, desk_of, PairState, IsRanged, offer_read, pair_range, text_good, MayAllGo, marks, AreFree, AreJoint, NcpState, pair_with, Peer, End, Side, AreSteps, Receiver, Sender, Sockets, Step, Word, receiver, said_words, placed_event, tagged, with_place, Event, Message, Other, Out, Reply, Reset, place, In, pair, Agrees, event_of, message_on, IsApart, Crossed, IsNext, IsStory, Moment, events_of, places, program, program_own, story_agrees, NameFree, TakesFreeAt, law_events, all_heard, all_said, heard_in, onto, steps, words_by, words_of, Waiting, boxes, AreOurs, Network}
 use Rattle.host_pairs.specs.Data.{data_taken}
 use Rattle.host_pairs.specs.Parcels.{Parcel, link_for, pair_after, parcel_gone, text_for}
 use Rattle.host_pairs.specs.Turn.{TurnState, orders_taken, with_desk, if_ready, message_taken}
@@ -44,7 +44,7 @@ said_are a b events =
 
 pub offered_pair : (s : NcpState) (stamp : ℕ) (g : Peer) (x : Parcel) → next_in s.peers ≡ Some (g, x) → pair_with g.host (offered s stamp).0.peers ≡ pair_after x g.pair (parcel_gone g.host stamp g.pair.busy x (desk_of g.pair s.listening))
 unfolding offered
-offered_pair s stamp g x is = rw is (put g.host _ s.peers)
+offered_pair s stamp g x is = rw is (put g.host _ _)
 
 -- ---- what goes out to a peer
 
@@ -64,7 +64,7 @@ module _ (origin : Host → Host → ℕ → ℕ) (hosts : Network) (a b : Host)
 
   base_steps : AreSteps xs
   base_steps =
-      sender_speaks vs (steps a b (law_events moments)) (texts_pairs Sender (stay.said_by b a 0 e)) t.steps
+      sender_speaks vs _ (texts_pairs Sender _) t.steps
       (λ s q. subst (λ (y : Side). MayAllGo (words.at s vs) y.end y.next) (sym (sender_half s a b (law_events moments)))
       (may_turn s q Sender b a (origin b a) hosts (ours.1, ours.0) (Crossed (crossing.Out m)) moments story (ranged b ours.1) (t.sender_next s q) (t.sender s q)))
 
@@ -73,26 +73,26 @@ module _ (origin : Host → Host → ℕ → ℕ) (hosts : Network) (a b : Host)
 
   pub out_here : same_host a m.flow.source ≡ true → same_host b m.flow.destination ≡ true → NameFree ws xs × LinksOf (said_claims (all_said Receiver ws xs)) (heard_claims (steps b a (law_events moments))) (pair_with b (offered (program a moments) (places moments)).0.peers)
   out_here from to =
-      let is_a : a ≡ m.flow.source = same_host-true a m.flow.source from in
-      let is_b : b ≡ m.flow.destination = same_host-true b m.flow.destination to in
+      let is_a : a ≡ m.flow.source = same_host-true a _ from in
+      let is_b : b ≡ m.flow.destination = same_host-true b _ to in
       let n : IsNext (program a moments) m = subst (λ (y : Host). IsNext (program y moments) m) (sym is_a) (story.0 (subst (λ (y : Host). hosts.strange y ≡ false) is_a ours.0)) in
       let s : NcpState = program a moments in
       let to_peer : b ≡ n.peer.host = is_b ∙ ap (λ (y : HostMessage). y.flow.destination) n.message in
       let link : m.flow.link.0 ≡ link_for n.parcel = ap (λ (y : HostMessage). y.flow.link.0) n.message in
       let text : m.text ≡ text_for n.peer.pair n.parcel = ap (λ (y : HostMessage). y.text) n.message in
       let q : PairState = n.peer.pair in
-      let q_is : pair_with b (program a moments).peers ≡ n.peer.pair = ap (λ (y : Host). pair_with y (program a moments).peers) to_peer ∙ next_pair (program a moments).peers n.peer n.parcel n.order n.next in
+      let q_is : pair_with b (program a moments).peers ≡ n.peer.pair = ap (λ (y : Host). pair_with y (program a moments).peers) to_peer ∙ next_pair _ n.peer _ n.order n.next in
       -- the words
       let words_are : ws ≡ read_words Receiver (places moments) (link_for n.parcel) (text_for n.peer.pair n.parcel) =
       ap (λ (y : Host). words_of Receiver (stay.said_by a b 0 (Out y m.flow.destination m.flow.link.0 (with_place (place (events_of moments)) (message_on m.flow.link.0 m.text))))) (sym is_a)
       ∙ ap (λ (y : Host). words_of Receiver (stay.said_by a b 0 (Out a y m.flow.link.0 (with_place (place (events_of moments)) (message_on m.flow.link.0 m.text))))) (sym is_b)
-      ∙ words_said a b (place (events_of moments)) m.flow.link.0 m.text
+      ∙ words_said a b _ _ m.text
       ∙ ap (λ (k : ℕ). read_words Receiver k m.flow.link.0 m.text) (place_is moments)
       ∙ ap (λ (k : ℕ). read_words Receiver (places moments) k m.text) link
       ∙ ap (λ (k : List Bool). read_words Receiver (places moments) (link_for n.parcel) k) text in
       let agrees : Agrees n.peer.pair (pair a b (events_of moments)) = subst (λ (p : PairState). Agrees p (pair a b (events_of moments))) q_is (story_agrees hosts moments a b ours story.1) in
-      let pairs : AllPairs (said_words Receiver xs) = subst AllPairs (sym (ap (λ (v : View). v.receiver_said) (sender_says vs (steps a b (law_events moments))))) (said_are a b (law_events moments)) in
-      let range : ranges.IsPair n.peer.pair = subst (λ (p : PairState). ranges.IsPair p) q_is (pair_range b (program a moments).peers (ranged a ours.0).pairs) in
+      let pairs : AllPairs (said_words Receiver xs) = subst AllPairs (sym (ap (λ (v : View). v.receiver_said) (sender_says vs _))) (said_are a b (law_events moments)) in
+      let range : ranges.IsPair n.peer.pair = subst (λ (p : PairState). ranges.IsPair p) q_is (pair_range b _ (ranged a ours.0).pairs) in
       let receives : (s : Sockets) → IsPair s → (pl : ℕ) → Stand true (origin a b) pl (at s.receive s.send n.peer.pair.entries) (marks pl s.receive s.send n.peer.pair.queue) (receiver s xs).end =
       λ s k pl. subst (λ (x : Side). Stand true (origin a b) pl (at s.receive s.send n.peer.pair.entries) (marks pl s.receive s.send n.peer.pair.queue) x.end) (sym (base_receiver s ∙ receiver_half s a b (law_events moments)))
       (subst (λ (p : PairState). Stand true (origin a b) pl (at s.receive s.send p.entries) (marks pl s.receive s.send p.queue) (Side_of s k Receiver a b (origin a b) moments).end) q_is ((t.receiver s k).ends pl)) in
@@ -111,10 +111,10 @@ module _ (origin : Host → Host → ℕ → ℕ) (hosts : Network) (a b : Host)
       let k : NameFree (read_words Receiver (places moments) (link_for n.parcel) (text_for n.peer.pair n.parcel)) xs
       × LinksOf (said_claims (all_said Receiver (read_words Receiver (places moments) (link_for n.parcel) (text_for n.peer.pair n.parcel)) xs)) (heard_claims (steps b a (law_events moments)))
       (pair_after n.parcel n.peer.pair (parcel_gone n.peer.host (places moments) n.peer.pair.busy n.parcel (desk_of n.peer.pair (program a moments).listening))) =
-      parcel_links (origin a b) n.peer.host (places moments) (heard_claims (steps b a (law_events moments))) (program a moments).listening n.peer.pair n.parcel (pair a b (events_of moments)) xs agrees (next_is n.peer n.parcel (program a moments).peers n.next)
-      (offer_read (program a moments) n.peer n.parcel (ranged a ours.0) n.next) range.commands base_steps pairs receives sends may links in
+      parcel_links (origin a b) n.peer.host (places moments) (heard_claims (steps b a (law_events moments))) _ _ _ _ xs agrees (next_is n.peer n.parcel (program a moments).peers n.next)
+      (offer_read _ n.peer _ (ranged a ours.0) n.next) range.commands base_steps pairs receives sends may links in
       let after : pair_with b (offered (program a moments) (places moments)).0.peers ≡ pair_after n.parcel n.peer.pair (parcel_gone n.peer.host (places moments) n.peer.pair.busy n.parcel (desk_of n.peer.pair (program a moments).listening)) =
-      ap (λ (y : Host). pair_with y (offered (program a moments) (places moments)).0.peers) to_peer ∙ offered_pair (program a moments) (places moments) n.peer n.parcel n.next in
+      ap (λ (y : Host). pair_with y (offered (program a moments) (places moments)).0.peers) to_peer ∙ offered_pair _ _ n.peer _ n.next in
       subst (λ (l : List Word). NameFree l xs × LinksOf (said_claims (all_said Receiver l xs)) (heard_claims (steps b a (law_events moments))) (pair_with b (offered (program a moments) (places moments)).0.peers)) (sym words_are)
       (k.0, subst (λ (p : PairState). LinksOf (said_claims (all_said Receiver (read_words Receiver (places moments) (link_for n.parcel) (text_for n.peer.pair n.parcel)) xs)) (heard_claims (steps b a (law_events moments))) p) (sym after) k.1)
 
@@ -124,7 +124,7 @@ pub message_pair : (s : NcpState) (m : HostMessage) (stamp : ℕ) → same_host 
 unfolding accepted
 message_pair s m stamp own = by (same_host s.own m.flow.destination) refl where
   by : (b : Bool) → same_host s.own m.flow.destination ≡ b → pair_with m.flow.source (accepted_message s m stamp).0.peers ≡ (message_taken m.flow.source stamp m.flow.link.0 m.text (turn_of s m.flow.source)).pair
-  by true e = rw e (put m.flow.source _ s.peers)
+  by true e = rw e (put _ _ s.peers)
   by false e = absurd (let both : true ≡ false = sym own ∙ e in cc)
 
 data_links : (said taken : List Claim) (link : ℕ) (text : List Bool) (t : TurnState) → LinksOf said taken t.pair → LinksOf said taken (if_ready (data_taken link text) t).pair
@@ -164,12 +164,12 @@ module _ (origin : Host → Host → ℕ → ℕ) (hosts : Network) (m : HostMes
       (heard_in (stay.stays m.flow.destination m.flow.source (law_events moments)) Sender (words_of Receiver (stay.heard_by m.flow.source m.flow.destination 0 (In m.flow.source m.flow.destination m.flow.link.0 (Other (tagged pl m.text))))) ys)) =
       taken_steps m.flow.source m.flow.destination (In m.flow.source m.flow.destination m.flow.link.0 (Other (tagged pl m.text))) (law_events moments) all in
       let heard : AreSteps (all_heard Sender (words_of Receiver (stay.heard_by m.flow.source m.flow.destination 0 (In m.flow.source m.flow.destination m.flow.link.0 (Other (tagged pl m.text))))) ys) =
-      heard_all (stay.stays m.flow.destination m.flow.source (law_events moments)) Sender (words_of Receiver (stay.heard_by m.flow.source m.flow.destination 0 (In m.flow.source m.flow.destination m.flow.link.0 (Other (tagged pl m.text))))) ys stays
+      heard_all _ Sender (words_of Receiver (stay.heard_by m.flow.source m.flow.destination 0 (In m.flow.source m.flow.destination m.flow.link.0 (Other (tagged pl m.text))))) ys stays
       (under_heard_in (stay.stays m.flow.source m.flow.destination (law_events moments)) Receiver (words_of Sender (stay.heard_by m.flow.destination m.flow.source 0 (In m.flow.source m.flow.destination m.flow.link.0 (Other (tagged pl m.text))))) _ taken) in
       let is : words_of Receiver (stay.heard_by m.flow.source m.flow.destination 0 (In m.flow.source m.flow.destination m.flow.link.0 (Other (tagged pl m.text)))) ≡ words_by Receiver (origin m.flow.destination m.flow.source (places moments)) (orders_of m.text) =
-      ap (λ (b : Bool). words_of Receiver (if b then tagged pl m.text ∷ [] else [])) (ap (λ (b : Bool). b && 0 == m.flow.link.0) (are_same m.flow.source m.flow.destination) ∙ eqb-sym 0 m.flow.link.0 ∙ zero)
+      ap (λ (b : Bool). words_of Receiver (if b then tagged pl m.text ∷ [] else [])) (ap (λ (b : Bool). b && 0 == m.flow.link.0) (are_same m.flow.source m.flow.destination) ∙ eqb-sym 0 _ ∙ zero)
       ∙ words_tagged Receiver pl m.text ∙ ap (λ (k : ℕ). words_by Receiver k (orders_of m.text)) (sym at_place) in
-      orders_links (origin m.flow.destination m.flow.source) m.flow.source (places moments) said0 (orders_of m.text) turn ys joint (text_good m.text) ready
+      orders_links (origin m.flow.destination m.flow.source) m.flow.source (places moments) said0 _ turn ys joint (text_good m.text) ready
       (subst (λ (l : List Word). AreSteps (all_heard Sender l ys)) is heard)
       (λ s k. subst (λ (x : Side). HasEnd (origin m.flow.destination m.flow.source) s.send s.receive (pair_with m.flow.source (program m.flow.destination moments).peers) x.end) (sym (sender_half s m.flow.source m.flow.destination (law_events moments))) (u.sender s k)) h
 
@@ -182,10 +182,10 @@ module _ (origin : Host → Host → ℕ → ℕ) (hosts : Network) (m : HostMes
 
   in_done : (n : Message) → boxed s0 (refl, refl) Sender (origin m.flow.destination m.flow.source) hosts m moments ours story run ≡ n → LinksOf said0 (Heard n) q1 → Linked m.flow.destination m.flow.source (Crossed (crossing.In m) ∷ moments)
   in_done n e k =
-      let own : same_host (program m.flow.destination moments).own m.flow.destination ≡ true = ap (λ (y : Host). same_host y m.flow.destination) (program_own m.flow.destination moments) ∙ same_host-refl m.flow.destination in
+      let own : same_host (program m.flow.destination moments).own m.flow.destination ≡ true = ap (λ (y : Host). same_host y m.flow.destination) (program_own _ moments) ∙ same_host-refl m.flow.destination in
       let pair_is : pair_with m.flow.source (program m.flow.destination (Crossed (crossing.In m) ∷ moments)).peers ≡ q1 =
       ap (λ (b : Bool). pair_with m.flow.source (if b then (accepted (program m.flow.destination moments) (inbound.Message m) (places moments)).0 else program m.flow.destination moments).peers) (same_host-refl m.flow.destination)
-      ∙ message_pair (program m.flow.destination moments) m (places moments) own in
+      ∙ message_pair _ m _ own in
       let heard : heard_claims (steps m.flow.source m.flow.destination (law_events (Crossed (crossing.In m) ∷ moments))) ≡ Heard n =
       heard_next m.flow.source m.flow.destination (placed_event (event_of (crossing.In m)) (events_of moments)) (law_events moments) ∙ ap Heard e in
       let said : said_claims (steps m.flow.destination m.flow.source (law_events (Crossed (crossing.In m) ∷ moments))) ≡ said0 =
@@ -211,7 +211,7 @@ module _ (origin : Host → Host → ℕ → ℕ) (hosts : Network) (m : HostMes
   boxed0 n e = boxed_is s0 (refl, refl) Sender (origin m.flow.destination m.flow.source) hosts m moments ours story run n e
 
   stays0 : (b : Bool) → message_on m.flow.link.0 m.text ≡ Other m.text → phases.is_ready (pair_with m.flow.source (program m.flow.destination moments).peers).phase ≡ b → stay.stays m.flow.destination m.flow.source (law_events moments) ≡ b
-  stays0 b is r = stays_as s0 (refl, refl) Sender (origin m.flow.destination m.flow.source) hosts m moments ours story run place0.0 (boxed0 _ is) b r
+  stays0 b is r = stays_as s0 (refl, refl) Sender (origin m.flow.destination m.flow.source) hosts m moments ours story run _ (boxed0 _ is) b r
 
   joint0 : (m.flow.link.0 == 0) ≡ true → message_on m.flow.link.0 m.text ≡ Other m.text → AreJoint (orders_of m.text)
   joint0 zero is = plain_joint _ (subst (λ (n : Message). IsApart m.flow.link.0 m.text n) is (story.0 ours) zero)
@@ -229,39 +229,39 @@ module _ (origin : Host → Host → ℕ → ℕ) (hosts : Network) (m : HostMes
         let at_place : origin m.flow.destination m.flow.source (places moments) ≡ place0.0 = from place0.0 place0.1 zero in
         let k : AreFree m.flow.source (places moments) (orders_of m.text) turn
         × Links (all_claims (orders_taken m.flow.source (places moments) (orders_of m.text) turn).pair.queue said0) (heard_claims (all_heard Sender (words_by Receiver (origin m.flow.destination m.flow.source (places moments)) (orders_of m.text)) ys)) (orders_taken m.flow.source (places moments) (orders_of m.text) turn).pair.entries =
-        text_links place0.0 (boxed0 (Other m.text) is) zero at_place (joint0 zero is) ready (stays0 true is ready) in
+        text_links _ (boxed0 _ is) zero at_place (joint0 zero is) ready (stays0 true is ready) in
         let words_are : words_of Receiver (stay.heard_by m.flow.source m.flow.destination 0 (In m.flow.source m.flow.destination m.flow.link.0 (Other (tagged place0.0 m.text)))) ≡ words_by Receiver (origin m.flow.destination m.flow.source (places moments)) (orders_of m.text) =
-        ap (λ (b : Bool). words_of Receiver (if b then tagged place0.0 m.text ∷ [] else [])) (ap (λ (b : Bool). b && 0 == m.flow.link.0) (are_same m.flow.source m.flow.destination) ∙ eqb-sym 0 m.flow.link.0 ∙ zero)
-        ∙ words_tagged Receiver place0.0 m.text ∙ ap (λ (k : ℕ). words_by Receiver k (orders_of m.text)) (sym at_place) in
+        ap (λ (b : Bool). words_of Receiver (if b then tagged place0.0 m.text ∷ [] else [])) (ap (λ (b : Bool). b && 0 == m.flow.link.0) (are_same m.flow.source m.flow.destination) ∙ eqb-sym 0 _ ∙ zero)
+        ∙ words_tagged Receiver _ m.text ∙ ap (λ (k : ℕ). words_by Receiver k (orders_of m.text)) (sym at_place) in
         let heard : Heard (Other (tagged place0.0 m.text)) ≡ heard_claims (all_heard Sender (words_by Receiver (origin m.flow.destination m.flow.source (places moments)) (orders_of m.text)) ys) =
         ap (λ (b : Bool). heard_claims (heard_in b Sender (words_of Receiver (stay.heard_by m.flow.source m.flow.destination 0 (In m.flow.source m.flow.destination m.flow.link.0 (Other (tagged place0.0 m.text))))) ys)) (stays0 true is ready)
         ∙ ap (λ (l : List Word). heard_claims (all_heard Sender l ys)) words_are in
-        in_done (Other (tagged place0.0 m.text)) (boxed0 (Other m.text) is)
+        in_done (Other (tagged place0.0 m.text)) (boxed0 _ is)
         (subst (λ (p : PairState). LinksOf said0 (Heard (Other (tagged place0.0 m.text))) p) (on_zero true zero)
         (subst (λ (cs : List Claim). LinksOf said0 cs (orders_taken m.flow.source (places moments) (orders_of m.text) turn).pair) (sym heard) k.1))
     by false idle =
         let heard : Heard (Other (tagged place0.0 m.text)) ≡ heard_claims ys =
         ap (λ (b : Bool). heard_claims (heard_in b Sender (words_of Receiver (stay.heard_by m.flow.source m.flow.destination 0 (In m.flow.source m.flow.destination m.flow.link.0 (Other (tagged place0.0 m.text))))) ys)) (stays0 false is idle) in
-        in_done (Other (tagged place0.0 m.text)) (boxed0 (Other m.text) is)
+        in_done _ (boxed0 _ is)
         (subst (λ (p : PairState). LinksOf said0 (Heard (Other (tagged place0.0 m.text))) p)
-        (ap (λ (t : TurnState). t.pair) (sym (orders_idle m.flow.source (places moments) (orders_of m.text) turn (joint0 zero is) idle)) ∙ on_zero true zero)
+        (ap (λ (t : TurnState). t.pair) (sym (orders_idle _ _ _ turn (joint0 zero is) idle)) ∙ on_zero true zero)
         (subst (λ (cs : List Claim). LinksOf said0 cs turn.pair) (sym heard) h))
 
   pub in_linked : Linked m.flow.destination m.flow.source (Crossed (crossing.In m) ∷ moments)
   in_linked = by (m.flow.link.0 == 0) refl where
     by : (z : Bool) → (m.flow.link.0 == 0) ≡ z → Linked m.flow.destination m.flow.source (Crossed (crossing.In m) ∷ moments)
-    by true zero = at_zero zero (sort_of m.flow.link.0 m.text)
+    by true zero = at_zero zero (sort_of _ m.text)
     by false away =
         let is : message_on m.flow.link.0 m.text ≡ Other m.text = rw away refl in
         let none : stay.heard_by m.flow.source m.flow.destination 0 (In m.flow.source m.flow.destination m.flow.link.0 (Other (tagged place0.0 m.text))) ≡ [] =
-        heard_off (are m.flow.source m.flow.destination m.flow.source m.flow.destination) (0 == m.flow.link.0) (tagged place0.0 m.text ∷ []) (eqb-sym 0 m.flow.link.0 ∙ away) in
-        in_done (Other (tagged place0.0 m.text)) (boxed0 (Other m.text) is)
-        (quiet_heard (Other (tagged place0.0 m.text)) none (subst (λ (p : PairState). LinksOf said0 (heard_claims ys) p) (on_zero false away) (data_links said0 (heard_claims ys) m.flow.link.0 m.text turn h)))
+        heard_off _ _ _ (eqb-sym 0 _ ∙ away) in
+        in_done _ (boxed0 _ is)
+        (quiet_heard (Other (tagged place0.0 m.text)) none (subst (λ (p : PairState). LinksOf said0 (heard_claims ys) p) (on_zero false away) (data_links said0 _ _ m.text turn h)))
 
   free_at : (m.flow.link.0 == 0) ≡ true → phases.is_ready (pair_with m.flow.source (program m.flow.destination moments).peers).phase ≡ true → Sort m.flow.link.0 m.text → AreFree m.flow.source (places moments) (orders_of m.text) turn
   free_at zero ready (AnRst z orders is) = subst (λ (os : List Order). AreFree m.flow.source (places moments) os turn) (sym orders) (tt, tt)
   free_at zero ready (AnRrp z orders is) = subst (λ (os : List Order). AreFree m.flow.source (places moments) os turn) (sym orders) (tt, tt)
-  free_at zero ready (AText is) = (text_links place0.0 (boxed0 _ is) zero (from place0.0 place0.1 zero) (joint0 zero is) ready (stays0 true is ready)).0
+  free_at zero ready (AText is) = (text_links _ (boxed0 _ is) zero (from place0.0 place0.1 zero) (joint0 zero is) ready (stays0 true is ready)).0
 
   pub in_free : TakesFreeAt hosts (Crossed (crossing.In m)) moments
-  in_free = λ our ready zero. free_at zero ready (sort_of m.flow.link.0 m.text)
+  in_free = λ our ready zero. free_at zero ready (sort_of _ m.text)

@@ -50,7 +50,7 @@ one_by own foreign (e ∷ es) few = by (is_at own foreign e) refl (λ k. one_by 
   alone t (b ∷ more) f = absurd (few (standing e) b more (at_one own foreign e es true t ∙ ap (λ (ss : List Standing). standing e ∷ ss) f))
 
   by : (b : Bool) → is_at own foreign e ≡ b → (((a b : Standing) (more : List Standing) → at own foreign es ≡ a ∷ b ∷ more → ⊥) → One (map (is_at own foreign) es)) → One (is_at own foreign e ∷ map (is_at own foreign) es)
-  by true t rest = rw t (alone t (at own foreign es) refl)
+  by true t rest = rw t (alone t _ refl)
   by false t rest = rw t (rest (λ a b more q. few a b more (at_one own foreign e es false t ∙ q)))
 
 few_stand : (swept : Bool) (origin : ℕ → ℕ) (place : ℕ) (ss : List Standing) (ws : List Mark) (x : End) → Stand swept origin place ss ws x → (a b : Standing) (more : List Standing) → ss ≡ a ∷ b ∷ more → ⊥
@@ -118,16 +118,16 @@ module _ (origin : ℕ → ℕ) where
     by : (b : Bool) → list_any (sends_on w.link) es ≡ b → b ≡ false
     by true e =
         let f : Split (sends_on w.link) es = any_split _ es e in
-        let q : SendsBy (heard_claims xs) f.end = each_split _ f.front f.end f.rest (subst (λ (l : List Entry). Each (SendsBy (heard_claims xs)) l) f.is h) in
+        let q : SendsBy (heard_claims xs) f.end = each_split _ _ f.end f.rest (subst (λ (l : List Entry). Each (SendsBy (heard_claims xs)) l) f.is h) in
         let k : (is_some f.end.partner ≡ true) × (last_link (record { receive = f.end.foreign; send = f.end.own }) (heard_claims xs) ≡ Some w.link) × (is_receive_socket f.end.foreign ≡ true) = q w.link f.on in
         let sending : not (is_receive_socket f.end.own) ≡ true = (both (not (is_receive_socket f.end.own)) (is_link w.link f.end.link) f.on).0 in
-        let odd : is_send_socket f.end.own ≡ true = odd_send f.end.own (not_true _ sending) in
+        let odd : is_send_socket f.end.own ≡ true = odd_send _ (not_true _ sending) in
         let t : Sockets = record { receive = f.end.foreign; send = f.end.own } in
         let stand : Stand true origin 0 (at f.end.own f.end.foreign es) (marks 0 f.end.own f.end.foreign queue) (sender (record { receive = f.end.foreign; send = f.end.own }) xs).end = ends _ (k.2, odd) 0 in
         let one : Stand true origin 0 (standing f.end ∷ []) (marks 0 f.end.own f.end.foreign queue) (sender (record { receive = f.end.foreign; send = f.end.own }) xs).end =
-        stands_alone true origin 0 f.end.own f.end.foreign f.front f.end f.rest _ _ (own_at f.end) (subst (λ (l : List Entry). Stand true origin 0 (at f.end.own f.end.foreign l) (marks 0 f.end.own f.end.foreign queue) (sender (record { receive = f.end.foreign; send = f.end.own }) xs).end) f.is stand) in
-        let place : (n : ℕ) × (f.end.partner ≡ Some n) = some_is f.end.partner k.0 in
-        let partner : (sender (record { receive = f.end.foreign; send = f.end.own }) xs).end.partner ≡ Some (origin place.0) = end_partner origin 0 f.end _ _ place.0 one place.1 in
+        stands_alone true origin 0 _ _ _ f.end f.rest _ _ (own_at f.end) (subst (λ (l : List Entry). Stand true origin 0 (at f.end.own f.end.foreign l) (marks 0 f.end.own f.end.foreign queue) (sender (record { receive = f.end.foreign; send = f.end.own }) xs).end) f.is stand) in
+        let place : (n : ℕ) × (f.end.partner ≡ Some n) = some_is _ k.0 in
+        let partner : (sender (record { receive = f.end.foreign; send = f.end.own }) xs).end.partner ≡ Some (origin place.0) = end_partner origin 0 f.end _ _ _ one place.1 in
         absurd (unused xs w p steps mark (record { receive = f.end.foreign; send = f.end.own })
         (origin place.0, partner, partner_among _ xs steps.1 _ w.link (partner, k.1)))
     by false e = refl
@@ -148,11 +148,11 @@ module _ (origin : ℕ → ℕ) (peer : Host) (stamp : ℕ) (said : List Claim) 
   one_ends o t xs joint legal ready free steps h = λ s q.
       let ws : List Word = word_by Receiver (origin stamp) o in
       let fit : AllFit (words.at s (word_by Receiver (origin stamp) o)) (sender s xs).end = sender_fits s ws xs steps in
-      let is : words.at s (word_by Receiver (origin stamp) o) ≡ mark_in (origin stamp) s.receive s.send o = order_at s q Receiver (origin stamp) o legal in
+      let is : words.at s (word_by Receiver (origin stamp) o) ≡ mark_in (origin stamp) s.receive s.send o = order_at s q Receiver _ o legal in
       let has : HasEnd origin s.send s.receive (after_order o t).pair (all_taken (mark_in (origin stamp) s.receive s.send o) (sender s xs).end) =
-      one_order origin s.send s.receive peer stamp o t (sender s xs).end joint free (subst (λ (ms : List Mark). AllFit ms (sender s xs).end) is fit) ready (h s q) in
+      one_order origin s.send s.receive peer stamp o t _ joint free (subst (λ (ms : List Mark). AllFit ms (sender s xs).end) is fit) ready (h s q) in
       let end : (sender s (heard_one o xs)).end ≡ all_taken (mark_in (origin stamp) s.receive s.send o) (sender s xs).end =
-      ap (λ (x : Side). x.end) (sender_hears s ws xs) ∙ hears_end (words.at s (word_by Receiver (origin stamp) o)) (sender s xs) fit ∙ ap (λ (ms : List Mark). all_taken ms (sender s xs).end) is in
+      ap (λ (x : Side). x.end) (sender_hears s ws xs) ∙ hears_end _ _ fit ∙ ap (λ (ms : List Mark). all_taken ms (sender s xs).end) is in
       subst (λ (x : End). HasEnd origin s.send s.receive (after_order o t).pair x) (sym end) has
 
   close_claims : (b : Bool) (r n : ℕ) (xs : List Step) → heard_claims (all_heard Sender (if b then record { sockets = record { receive = r; send = n }; link = 0; mark = Close } ∷ [] else []) xs) ≡ heard_claims xs
@@ -168,18 +168,18 @@ module _ (origin : ℕ → ℕ) (peer : Host) (stamp : ℕ) (said : List Claim) 
   rts_one r n l t xs even odd steps ends h =
       let w : Word = record { sockets = record { receive = r; send = n }; link = l; mark = Ask (origin stamp) } in
       let s0 : Sockets = record { receive = r; send = n } in
-      let free : list_any (sends_on l) t.pair.entries ≡ false = free_now origin xs w (origin stamp) t.pair.entries t.pair.queue steps refl (λ s q place. (ends s q).ends place) h.sends in
+      let free : list_any (sends_on l) t.pair.entries ≡ false = free_now origin xs w _ _ t.pair.queue steps refl (λ s q place. (ends s q).ends place) h.sends in
       let stand : Stand true origin 0 (at n r t.pair.entries) (marks 0 n r t.pair.queue) (sender (record { receive = r; send = n }) xs).end = (ends s0 (even, odd)).ends 0 in
       let fit : fits (Ask (origin stamp)) (sender (record { receive = r; send = n }) xs).end ≡ true =
       (subst (λ (b : Bool). AllFit (put b (Ask (origin stamp)) []) (sender (record { receive = r; send = n }) xs).end) (same_self s0) (sender_fits s0 (w ∷ []) xs steps)).0 in
       let fresh : (e : Entry) → entry_at n r t.pair.entries ≡ Some e → is_some e.partner ≡ false =
-      λ e is. (let f : Found n r t.pair.entries e = found_at n r t.pair.entries e is in
+      λ e is. (let f : Found n r t.pair.entries e = found_at n r _ e is in
       let k : Stand true origin 0 (standing e ∷ f.rest) (marks 0 n r t.pair.queue) (sender (record { receive = r; send = n }) xs).end =
       subst (λ (ss : List Standing). Stand true origin 0 ss (marks 0 n r t.pair.queue) (sender (record { receive = r; send = n }) xs).end) f.first stand in
-      (stand_asked origin 0 stamp (standing e) (marks 0 n r t.pair.queue) (sender (record { receive = r; send = n }) xs).end
-      (subst (λ (ss : List Standing). Stand true origin 0 ss (marks 0 n r t.pair.queue) (sender (record { receive = r; send = n }) xs).end) (alone true origin 0 [] (standing e) f.rest (marks 0 n r t.pair.queue) (sender (record { receive = r; send = n }) xs).end k) k) fit).0) in (
+      (stand_asked origin 0 stamp _ _ _
+      (subst (λ (ss : List Standing). Stand true origin 0 ss (marks 0 n r t.pair.queue) (sender (record { receive = r; send = n }) xs).end) (alone true origin 0 [] _ f.rest _ _ k) k) fit).0) in (
         free,
-        rts_linked said (heard_claims xs) n r l (send_odd n odd) even peer stamp (desk_of t.pair t.listening) free fresh (one_at true origin 0 n r t.pair.entries _ _ stand) h,
+        rts_linked said (heard_claims xs) n r l (send_odd n odd) even peer stamp _ free fresh (one_at true origin 0 n r _ _ _ stand) h,
       )
 
   one_links : (o : Order) (t : TurnState) (xs : List Step) → IsOrder o → AreSteps (heard_one o xs) → HasEnds t xs → Links (all_claims t.pair.queue said) (heard_claims xs) t.pair.entries → Result o t xs
@@ -197,7 +197,7 @@ module _ (origin : ℕ → ℕ) (peer : Host) (stamp : ℕ) (said : List Claim) 
   one_links (Legal (command.Str n r size)) t xs legal steps ends h = (tt, linked_other said (heard_claims xs) peer t.pair.busy stamp (command.Str n r size) (desk_of t.pair t.listening) (legal.3, legal.1) h)
   one_links (Legal (command.Cls own foreign)) t xs legal steps ends h = (
     tt,
-    subst (λ (claims : List Claim). Linked said claims (desk_taken peer t.pair.busy stamp (command.Cls own foreign) (desk_of t.pair t.listening))) (sym (close_claims (is_receive_socket own && is_send_socket foreign) own foreign xs))
+    subst (λ (claims : List Claim). Linked said claims (desk_taken peer t.pair.busy stamp (command.Cls own foreign) (desk_of t.pair t.listening))) (sym (close_claims _ own foreign xs))
         (linked_other said (heard_claims xs) peer t.pair.busy stamp (command.Cls own foreign) (desk_of t.pair t.listening) tt h),
   )
   one_links (Legal (command.All l a b)) t xs legal steps ends h = (tt, linked_other said (heard_claims xs) peer t.pair.busy stamp (command.All l a b) (desk_of t.pair t.listening) tt h)
@@ -222,7 +222,7 @@ module _ (origin : ℕ → ℕ) (peer : Host) (stamp : ℕ) (said : List Claim) 
       let ys : List Step = heard_one o xs in
       let parts : all_heard Sender (words_by Receiver (origin stamp) (o ∷ orders)) xs ≡ all_heard Sender (words_by Receiver (origin stamp) orders) (heard_one o xs) = heard_join ws vs xs in
       let later : AreSteps (all_heard Sender (words_by Receiver (origin stamp) orders) (heard_one o xs)) = subst AreSteps parts steps in
-      let first : AreSteps (heard_one o xs) = under vs (heard_one o xs) later in
+      let first : AreSteps (heard_one o xs) = under vs _ later in
       let k : Result o t xs = one_links o t xs legal.0 first ends h in
       let more : HasEnds (after_order o t) (heard_one o xs) = one_ends o t xs joint.0 legal.0 ready k.0 first ends in
       let next : order_taken peer stamp o t ≡ after_order o t = ready_when peer stamp o t joint.0 ready in

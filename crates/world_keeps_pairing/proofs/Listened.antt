@@ -41,21 +41,21 @@ module _ (s : Sockets) (is_pair : IsPair s) (who : Who) (origin : ℕ → ℕ) (
       (subst (λ (b : Bool). AreAmong (if b then all_of_peer origin m.flow.destination m.flow.source (own_of who s) (foreign_of who s) (accepted (program m.flow.destination moments) (inbound.Message m) (places moments)).1 T else T) more)
       (sym (same_host-refl m.flow.destination))
       (subst (λ (l : List Life). AreAmong l more)
-      (sym (about_peer origin m.flow.destination m.flow.source (own_of who s) (foreign_of who s) m.flow.source _ T
+      (sym (about_peer origin m.flow.destination m.flow.source (own_of who s) (foreign_of who s) _ _ T
       (message_about _ m _) (same_host-refl m.flow.source))) k))
 
   -- where it reports none
   told_none : (n : Message) → boxed s is_pair who origin hosts m moments ours story run ≡ n → Lives n ≡ x0.lives
       → with_openings origin (own_of who s) (foreign_of who s) (accepted (program m.flow.destination moments) (inbound.Message m) (places moments)).1 T ≡ T
       → Among s is_pair who m.flow.destination m.flow.source origin hosts moments → Among s is_pair who m.flow.destination m.flow.source origin hosts (Crossed (crossing.In m) ∷ moments)
-  told_none n e is none k = told_in n e x0.lives is (subst (λ (l : List Life). AreAmong l x0.lives) (sym none) k)
+  told_none n e is none k = told_in n e _ is (subst (λ (l : List Life). AreAmong l x0.lives) (sym none) k)
 
   -- a text on link 0
   text_lives : (place : ℕ) (b : Bool) → (m.flow.link.0 == 0) ≡ true → stay.stays m.flow.destination m.flow.source (law_events moments) ≡ b → (b ≡ true → AllFit (marks_in place (foreign_of who s) (own_of who s) (orders_of m.text)) x0.end)
       → Lives (Other (tagged place m.text)) ≡ (if b then all_lives_taken (marks_in place (foreign_of who s) (own_of who s) (orders_of m.text)) x0.end x0.lives else x0.lives)
   text_lives place true zero stays fit =
       let here : (are m.flow.source m.flow.destination m.flow.source m.flow.destination && 0 == m.flow.link.0) ≡ true =
-      ap (λ (t : Bool). t && 0 == m.flow.link.0) (are_same m.flow.source m.flow.destination) ∙ eqb-sym 0 m.flow.link.0 ∙ zero in
+      ap (λ (t : Bool). t && 0 == m.flow.link.0) (are_same m.flow.source m.flow.destination) ∙ eqb-sym 0 _ ∙ zero in
       let heard : at_texts s (other who) (if are m.flow.source m.flow.destination m.flow.source m.flow.destination && 0 == m.flow.link.0 then tagged place m.text ∷ [] else []) ≡ marks_in place (foreign_of who s) (own_of who s) (orders_of m.text) =
       ap (λ (t : Bool). at_texts s (other who) (if t then tagged place m.text ∷ [] else [])) here ∙ heard_is s is_pair who place m.text in
       ap (λ (t : Bool). (hears_if t (at_texts s (other who) (if are m.flow.source m.flow.destination m.flow.source m.flow.destination && 0 == m.flow.link.0 then tagged place m.text ∷ [] else [])) x0).lives) stays
@@ -92,7 +92,7 @@ module _ (s : Sockets) (is_pair : IsPair s) (who : Who) (origin : ℕ → ℕ) (
         (text_lives _ true zero (stays_as s is_pair who origin hosts m moments ours story run _ text true ready)
         (λ e. subst (λ (n : ℕ). AllFit (marks_in n (foreign_of who s) (own_of who s) (orders_of m.text)) x0.end) there fit)
         ∙ ap (λ (n : ℕ). all_lives_taken (marks_in n (foreign_of who s) (own_of who s) (orders_of m.text)) x0.end x0.lives) (sym there))
-        (message_tells origin (own_of who s) (foreign_of who s) _ m _ x0.end T x0.lives (own_is s is_pair who origin hosts m moments ours story run) zero ready joint
+        (message_tells origin (own_of who s) (foreign_of who s) _ m _ x0.end T _ (own_is s is_pair who origin hosts m moments ours story run) zero ready joint
         (hears ready zero joint).0 fit t k)
     by false idle =
         told_none _ text
@@ -104,15 +104,15 @@ module _ (s : Sockets) (is_pair : IsPair s) (who : Who) (origin : ℕ → ℕ) (
       → Among s is_pair who m.flow.destination m.flow.source origin hosts moments → Among s is_pair who m.flow.destination m.flow.source origin hosts (Crossed (crossing.In m) ∷ moments)
   in_here hears from t k = by (m.flow.link.0 == 0) refl where
     by : (z : Bool) → (m.flow.link.0 == 0) ≡ z → Among s is_pair who m.flow.destination m.flow.source origin hosts (Crossed (crossing.In m) ∷ moments)
-    by true zero = control_among hears from zero (sort_of m.flow.link.0 m.text) t k
+    by true zero = control_among hears from zero (sort_of _ m.text) t k
     by false away =
         let is : message_on m.flow.link.0 m.text ≡ Other m.text = rw away refl in
         let place : ℕ = (place_in s is_pair who origin hosts m moments ours story run).0 in
         let heard : stay.heard_by m.flow.source m.flow.destination 0 (In m.flow.source m.flow.destination m.flow.link.0 (Other (tagged place m.text))) ≡ [] =
-        heard_off _ _ _ (eqb-sym 0 m.flow.link.0 ∙ away) in
-        told_in _ (boxed_is s is_pair who origin hosts m moments ours story run _ is) x0.lives
+        heard_off _ _ _ (eqb-sym 0 _ ∙ away) in
+        told_in _ (boxed_is s is_pair who origin hosts m moments ours story run _ is) _
         (ap (λ (ts : List (List Bool)). (hears_if (stay.stays m.flow.destination m.flow.source (law_events moments)) (at_texts s (other who) ts) x0).lives) heard ∙ hears_no_lives _ x0)
-        (data_told origin (own_of who s) (foreign_of who s) _ m _ T x0.lives (own_is s is_pair who origin hosts m moments ours story run) away k)
+        (data_told origin (own_of who s) (foreign_of who s) _ m _ T _ (own_is s is_pair who origin hosts m moments ours story run) away k)
 
 -- any message that is taken
 pub in_among : (s : Sockets) (is_pair : IsPair s) (who : Who) (h p : Host) (origin : ℕ → ℕ) (hosts : Network) (m : HostMessage) (moments : List Moment) (ours : AreOurs hosts h p) (story : IsStory hosts (Crossed (crossing.In m) ∷ moments)) (run : IsRun hosts (events_of (Crossed (crossing.In m) ∷ moments)))
@@ -121,8 +121,8 @@ pub in_among : (s : Sockets) (is_pair : IsPair s) (who : Who) (h p : Host) (orig
 in_among s is_pair who h p origin hosts m moments ours story run k t among = by (same_host h m.flow.destination) (same_host p m.flow.source) refl refl where
   by : (b c : Bool) → same_host h m.flow.destination ≡ b → same_host p m.flow.source ≡ c → Among s is_pair who h p origin hosts (Crossed (crossing.In m) ∷ moments)
   by true true e f =
-      let is_h : h ≡ m.flow.destination = same_host-true h m.flow.destination e in
-      let is_p : p ≡ m.flow.source = same_host-true p m.flow.source f in
+      let is_h : h ≡ m.flow.destination = same_host-true h _ e in
+      let is_p : p ≡ m.flow.source = same_host-true p _ f in
       let our : AreOurs hosts m.flow.source m.flow.destination = (subst (λ (y : Host). hosts.strange y ≡ false) is_p ours.1, subst (λ (y : Host). hosts.strange y ≡ false) is_h ours.0) in
       let tie : Tie s is_pair who m.flow.destination m.flow.source origin moments =
       subst (λ (y : Host). Tie s is_pair who m.flow.destination y origin moments) is_p (subst (λ (y : Host). Tie s is_pair who y p origin moments) is_h t) in

@@ -33,7 +33,7 @@ module _ (s : Sockets) (pair : IsPair s) where
   word_at : (r n link : ℕ) (m : Mark) (b c : Bool) → (is_receive_socket r && is_send_socket n) ≡ b → (r == s.receive && n == s.send) ≡ c
       → at s (if b then record { sockets = record { receive = r; send = n }; link = link; mark = m } ∷ [] else []) ≡ (if c then m ∷ [] else [])
   word_at r n link m true c e f =
-      let is : (s.receive == r && s.send == n) ≡ c = ap (λ (t : Bool). t && s.send == n) (eqb-sym s.receive r) ∙ ap (λ (t : Bool). r == s.receive && t) (eqb-sym s.send n) ∙ f in
+      let is : (s.receive == r && s.send == n) ≡ c = ap (λ (t : Bool). t && s.send == n) (eqb-sym _ r) ∙ ap (λ (t : Bool). r == s.receive && t) (eqb-sym s.send n) ∙ f in
       ap (λ (t : Bool). if t then m ∷ [] else []) is
   word_at r n link m false true e f =
       let h : ((r == s.receive) ≡ true) × ((n == s.send) ≡ true) = both (r == s.receive) (n == s.send) f in
@@ -51,15 +51,15 @@ module _ (s : Sockets) (pair : IsPair s) where
   -- what one order says
   pub order_at : (who : Who) (place : ℕ) (o : Order) → IsOrder o → at s (word_by who place o) ≡ mark_in place (own_of who s) (foreign_of who s) o
   order_at Receiver place (Wrong code octets) h = refl
-  order_at Receiver place (Legal (command.Rts r n link)) h = at_word r n link (Ask place)
+  order_at Receiver place (Legal (command.Rts r n link)) h = at_word r n link _
   order_at Receiver place (Legal (command.Str n r size)) h =
-      ap (λ (t : Bool). if t then Ask place ∷ [] else []) (sym (apart n r s.receive s.send (λ e. even_odd n (ap is_receive_socket e ∙ pair.0) h.1)))
+      ap (λ (t : Bool). if t then Ask place ∷ [] else []) (sym (apart n r _ s.send (λ e. even_odd n (ap is_receive_socket e ∙ pair.0) h.1)))
   order_at Receiver place (Legal (command.Cls own foreign)) h = at_word own foreign 0 Close
   order_at Receiver place (Legal c) h = refl
   order_at Sender place (Wrong code octets) h = refl
   order_at Sender place (Legal (command.Rts r n link)) h =
-      ap (λ (t : Bool). if t then Ask place ∷ [] else []) (sym (apart r n s.send s.receive (λ e. even_odd r h.1 (ap is_send_socket e ∙ pair.1))))
-  order_at Sender place (Legal (command.Str n r size)) h = at_word r n 0 (Ask place) ∙ when_turned (Ask place) (r == s.receive) _
+      ap (λ (t : Bool). if t then Ask place ∷ [] else []) (sym (apart r n s.send _ (λ e. even_odd r h.1 (ap is_send_socket e ∙ pair.1))))
+  order_at Sender place (Legal (command.Str n r size)) h = at_word r n 0 _ ∙ when_turned (Ask place) (r == s.receive) _
   order_at Sender place (Legal (command.Cls own foreign)) h = at_word foreign own 0 Close ∙ when_turned Close (foreign == s.receive) _
   order_at Sender place (Legal c) h = refl
 
@@ -95,11 +95,11 @@ word_pairs r n link m = by (is_receive_socket r && is_send_socket n) refl where
 
 pub order_pairs : (who : Who) (place : ℕ) (o : Order) → AllPairs (word_by who place o)
 order_pairs Receiver place (Wrong code octets) = tt
-order_pairs Receiver place (Legal (command.Rts r n link)) = word_pairs r n link (Ask place)
+order_pairs Receiver place (Legal (command.Rts r n link)) = word_pairs r n link _
 order_pairs Receiver place (Legal (command.Cls own foreign)) = word_pairs own foreign 0 Close
 order_pairs Receiver place (Legal c) = tt
 order_pairs Sender place (Wrong code octets) = tt
-order_pairs Sender place (Legal (command.Str n r size)) = word_pairs r n 0 (Ask place)
+order_pairs Sender place (Legal (command.Str n r size)) = word_pairs r n 0 _
 order_pairs Sender place (Legal (command.Cls own foreign)) = word_pairs foreign own 0 Close
 order_pairs Sender place (Legal c) = tt
 

@@ -1,5 +1,5 @@
 -- A message that a host takes of its peer keeps what it has at two sockets.
-use Rattle.world_keeps_pairing.proofs.Common.{◌≡◌, inl, inr, ℕ, ◌==◌, Bool, true, false, ◌&&◌, if◌then◌else◌, List, [], ◌∷◌, refl, ap, sym, subst, ◌∙◌, Host, same_host, HostMessage, same_host-refl, same_host-true, orders_of, PairState, accepted, turn_of, NcpState, pair_with, HasEnd, AreFree, AreJoint, eqb-sym, same_kept, End, nothing, Mark, tagged, with_place, with_box, Side, Sockets, Who, Event, Message, Reset, Reply, Other, In, are, pair, IsApart, message_on, Moment, Crossed, IsStory, events_of, places, program, program_own, law_events, AreOurs, Network}
+use Rattle.world_keeps_pairing.proofs.Common.{◌≡◌, inl, inr, ℕ, ◌==◌, Bool, true, false, ◌&&◌, if◌then◌else◌, List, [], ◌∷◌, refl, ap, sym, subst, ◌∙◌, Host, same_host, HostMessage, same_host-refl, same_host-true, orders_of, PairState, accepted, turn_of, NcpState, pair_with, HasEnd, AreFree, AreJoint, eqb-sym, same_kept, End, nothing, Mark, tagged, with_place, with_box, Side, Sockets, Who, Event, Message, Reset, Reply, Other, In, are, IsApart, message_on, Moment, Crossed, IsStory, events_of, places, program, program_own, law_events, AreOurs, Network}
 use Rattle.host_keeps_pairing.specs.Words.{AllFit, marks_in, all_taken}
 use Rattle.pairing_law.proofs.lemmas.{placed_run, takes_in_stay}
 use Rattle.reset_law.specs.Boxes.{Box, Waiting, boxes}
@@ -69,7 +69,7 @@ module _ (s : Sockets) (is_pair : IsPair s) (who : Who) (origin : ℕ → ℕ) (
   boxed_is n e = ap (λ (b : Box). with_box b (message_on m.flow.link.0 m.text)) place_in.1 ∙ ap (with_place place_in.0) e
 
   ready_now : (n : Message) → boxed ≡ n → IsReady n
-  ready_now n e = subst (λ (y : Message). IsReady y) e (ready_is hosts m.flow.destination m.flow.source (Crossed (crossing.In m) ∷ moments) (ours.1, ours.0) story)
+  ready_now n e = subst (λ (y : Message). IsReady y) e (ready_is hosts _ _ (Crossed (crossing.In m) ∷ moments) (ours.1, ours.0) story)
 
   as_boxed : (n : Message) → boxed ≡ n → After n → Tie s is_pair who m.flow.destination m.flow.source origin (Crossed (crossing.In m) ∷ moments)
   as_boxed n e k = subst (λ (y : Message). After y) (sym e) k
@@ -86,7 +86,7 @@ module _ (s : Sockets) (is_pair : IsPair s) (who : Who) (origin : ℕ → ℕ) (
       ≡ (hears_if (stay.stays m.flow.destination m.flow.source old) (at_texts s (other who) (stay.heard_by m.flow.source m.flow.destination 0 (In m.flow.source m.flow.destination m.flow.link.0 (Other (tagged place m.text))))) x0).end
   text_end place true zero stays fit =
       let here : (are m.flow.source m.flow.destination m.flow.source m.flow.destination && 0 == m.flow.link.0) ≡ true =
-      ap (λ (t : Bool). t && 0 == m.flow.link.0) (are_same m.flow.source m.flow.destination) ∙ eqb-sym 0 m.flow.link.0 ∙ zero in
+      ap (λ (t : Bool). t && 0 == m.flow.link.0) (are_same m.flow.source m.flow.destination) ∙ eqb-sym 0 _ ∙ zero in
       let heard : at_texts s (other who) (if are m.flow.source m.flow.destination m.flow.source m.flow.destination && 0 == m.flow.link.0 then tagged place m.text ∷ [] else []) ≡ marks_in place (foreign_of who s) (own_of who s) (orders_of m.text) =
       ap (λ (t : Bool). at_texts s (other who) (if t then tagged place m.text ∷ [] else [])) here ∙ heard_is s is_pair who place m.text in
       sym (ap (λ (t : Bool). (hears_if t (at_texts s (other who) (if are m.flow.source m.flow.destination m.flow.source m.flow.destination && 0 == m.flow.link.0 then tagged place m.text ∷ [] else [])) x0).end) stays
@@ -97,15 +97,15 @@ module _ (s : Sockets) (is_pair : IsPair s) (who : Who) (origin : ℕ → ℕ) (
   -- where the host is through a reset it stays, and where it isn't it doesn't
   pub stays_as : (place : ℕ) → boxed ≡ Other (tagged place m.text) → (b : Bool) → program_phases.is_ready (pair_with m.flow.source (program m.flow.destination moments).peers).phase ≡ b
       → stay.stays m.flow.destination m.flow.source old ≡ b
-  stays_as place e b r = by b (ready_is hosts m.flow.destination m.flow.source moments (ours.1, ours.0) story.1 ∙ r) where
+  stays_as place e b r = by b (ready_is hosts _ _ moments (ours.1, ours.0) story.1 ∙ r) where
     by : (b : Bool) → stay.ready m.flow.destination m.flow.source old ≡ b → stay.stays m.flow.destination m.flow.source old ≡ b
     by true ready =
-        takes_in_stay hosts old m.flow.source m.flow.destination m.flow.link.0 (tagged place m.text) ours
+        takes_in_stay hosts old m.flow.source _ _ _ ours
         (subst (λ (n : Message). IsRun hosts (In m.flow.source m.flow.destination m.flow.link.0 n ∷ old)) e (placed_run hosts (events_of (Crossed (crossing.In m) ∷ moments)) run))
-        (ready_phase (pair m.flow.destination m.flow.source old).phase ready)
-    by false ready = none (stay.stays m.flow.destination m.flow.source old) refl where
+        (ready_phase _ ready)
+    by false ready = none _ refl where
       none : (c : Bool) → stay.stays m.flow.destination m.flow.source old ≡ c → c ≡ false
-      none true t = absurd (let both : true ≡ false = sym (stays_ready old m.flow.destination m.flow.source t) ∙ ready in cc)
+      none true t = absurd (let both : true ≡ false = sym (stays_ready old _ _ t) ∙ ready in cc)
       none false t = refl
 
   -- what is asked of a text that is heard
@@ -118,7 +118,7 @@ module _ (s : Sockets) (is_pair : IsPair s) (who : Who) (origin : ℕ → ℕ) (
   IsFrom = (place : ℕ) → boxes m.flow.source m.flow.destination (events_of moments) m.flow.link.0 ≡ Waiting place (message_on m.flow.link.0 m.text) → (m.flow.link.0 == 0) ≡ true → origin (places moments) ≡ place
 
   pub own_is : same_host (program m.flow.destination moments).own m.flow.destination ≡ true
-  own_is = ap (λ (y : Host). same_host y m.flow.destination) (program_own m.flow.destination moments) ∙ same_host-refl m.flow.destination
+  own_is = ap (λ (y : Host). same_host y m.flow.destination) (program_own _ moments) ∙ same_host-refl m.flow.destination
 
   pub joint_now : (m.flow.link.0 == 0) ≡ true → message_on m.flow.link.0 m.text ≡ Other m.text → AreJoint (orders_of m.text)
   joint_now zero is = plain_joint _ (subst (λ (n : Message). IsApart m.flow.link.0 m.text n) is (story.0 ours) zero)
@@ -140,7 +140,7 @@ module _ (s : Sockets) (is_pair : IsPair s) (who : Who) (origin : ℕ → ℕ) (
       (after_text origin (own_of who s) (foreign_of who s) (origin (places moments)) (program_phases.is_ready (pair_with m.flow.source (program m.flow.destination moments).peers).phase) n (orders_of m.text) x0.end)) is r))
   by_sort hears from zero (AText is) r =
       let n : Message = Other (tagged place_in.0 m.text) in
-      let e : boxed ≡ Other (tagged place_in.0 m.text) = boxed_is (Other m.text) is in
+      let e : boxed ≡ Other (tagged place_in.0 m.text) = boxed_is _ is in
       let at : origin (places moments) ≡ place_in.0 = from place_in.0 place_in.1 zero in
       let ready : Bool = program_phases.is_ready (pair_with m.flow.source (program m.flow.destination moments).peers).phase in
       let z : Has origin (own_of who s) (foreign_of who s) m.flow.source acc
@@ -153,13 +153,13 @@ module _ (s : Sockets) (is_pair : IsPair s) (who : Who) (origin : ℕ → ℕ) (
       (if program_phases.is_ready (pair_with m.flow.source (program m.flow.destination moments).peers).phase then all_taken (marks_in k (foreign_of who s) (own_of who s) (orders_of m.text)) x0.end else x0.end)) at z in
       let fit : program_phases.is_ready (pair_with m.flow.source (program m.flow.destination moments).peers).phase ≡ true → AllFit (marks_in place_in.0 (foreign_of who s) (own_of who s) (orders_of m.text)) x0.end =
       λ t. subst (λ (k : ℕ). AllFit (marks_in k (foreign_of who s) (own_of who s) (orders_of m.text)) x0.end) at (hears t zero (joint_now zero is)).1 in
-      as_boxed (Other (tagged place_in.0 m.text)) e
+      as_boxed _ e
       (tie_by origin (own_of who s) (foreign_of who s) m.flow.destination m.flow.source (at_texts s who) (at_texts s (other who)) (In m.flow.source m.flow.destination m.flow.link.0 (Other (tagged place_in.0 m.text))) old x0 q1
-      (if program_phases.is_ready (pair_with m.flow.source (program m.flow.destination moments).peers).phase then all_taken (marks_in place_in.0 (foreign_of who s) (own_of who s) (orders_of m.text)) x0.end else x0.end)
-      (ready_now (Other (tagged place_in.0 m.text)) e) refl
+      _
+      (ready_now _ e) refl
       (same_kept origin (own_of who s) (foreign_of who s) q1 _ (has_now _ w))
-      (text_end place_in.0 (program_phases.is_ready (pair_with m.flow.source (program m.flow.destination moments).peers).phase) zero
-      (stays_as place_in.0 e (program_phases.is_ready (pair_with m.flow.source (program m.flow.destination moments).peers).phase) refl) fit))
+      (text_end _ _ zero
+      (stays_as _ e _ refl) fit))
 
   in_matched : Hears → IsFrom → Tie s is_pair who m.flow.destination m.flow.source origin moments → Tie s is_pair who m.flow.destination m.flow.source origin (Crossed (crossing.In m) ∷ moments)
   in_matched hears from t = by (m.flow.link.0 == 0) refl where
@@ -168,11 +168,11 @@ module _ (s : Sockets) (is_pair : IsPair s) (who : Who) (origin : ℕ → ℕ) (
     taken z e = in_has origin (own_of who s) (foreign_of who s) (program m.flow.destination moments) m _ x0.end own_is (story.0 ours) hears t z e
 
     by : (z : Bool) → (m.flow.link.0 == 0) ≡ z → Tie s is_pair who m.flow.destination m.flow.source origin (Crossed (crossing.In m) ∷ moments)
-    by true zero = by_sort hears from zero (sort_of m.flow.link.0 m.text) (taken true zero)
+    by true zero = by_sort hears from zero (sort_of _ m.text) (taken true zero)
     by false away =
         let is : message_on m.flow.link.0 m.text ≡ Other m.text = rw away refl in
         quiet_now _ (boxed_is _ is)
-        (refl, heard_off _ _ _ (eqb-sym 0 m.flow.link.0 ∙ away), refl)
+        (refl, heard_off _ _ _ (eqb-sym 0 _ ∙ away), refl)
         (has_now x0.end (taken false away))
 
 -- any message that is taken
@@ -182,8 +182,8 @@ pub in_turn : (s : Sockets) (is_pair : IsPair s) (who : Who) (h p : Host) (origi
 in_turn s is_pair who h p origin hosts m moments ours story run k t = by (same_host h m.flow.destination) (same_host p m.flow.source) refl refl where
   by : (b c : Bool) → same_host h m.flow.destination ≡ b → same_host p m.flow.source ≡ c → Tie s is_pair who h p origin (Crossed (crossing.In m) ∷ moments)
   by true true e f =
-      let is_h : h ≡ m.flow.destination = same_host-true h m.flow.destination e in
-      let is_p : p ≡ m.flow.source = same_host-true p m.flow.source f in
+      let is_h : h ≡ m.flow.destination = same_host-true h _ e in
+      let is_p : p ≡ m.flow.source = same_host-true p _ f in
       let our : AreOurs hosts m.flow.source m.flow.destination = (subst (λ (y : Host). hosts.strange y ≡ false) is_p ours.1, subst (λ (y : Host). hosts.strange y ≡ false) is_h ours.0) in
       let there : Tie s is_pair who m.flow.destination m.flow.source origin moments =
       subst (λ (y : Host). Tie s is_pair who m.flow.destination y origin moments) is_p (subst (λ (y : Host). Tie s is_pair who y p origin moments) is_h t) in

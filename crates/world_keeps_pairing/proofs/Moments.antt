@@ -1,7 +1,7 @@
 -- Each moment keeps what a host has at two sockets.
-use Rattle.world_keeps_pairing.proofs.Common.{◌≡◌, ◌⊎◌, inl, inr, ℕ, Bool, true, false, ◌&&◌, if◌then◌else◌, List, [], ◌∷◌, None, refl, ap, sym, subst, ◌∙◌, Host, same_host, Flow, Answer, HostMessage, same_host-refl, same_host-true, PairState, accepted, NcpState, opening_state, pair_with, refusal, served, offered, Request, IsRanged, all_gone, after_request, opening_has, request_keeps, same_kept, End, nothing, Mark, placed_event, with_box, Side, Sockets, Who, Event, Message, Reset, Reply, Other, In, are, place, pair, event_of, event_by, message_on, Moment, Crossed, Asked, IsNext, IsStory, event_in, events_of, places, program, law_events, AreOurs, Network}
+use Rattle.world_keeps_pairing.proofs.Common.{◌≡◌, ◌⊎◌, inl, inr, ℕ, Bool, true, false, ◌&&◌, if◌then◌else◌, List, [], ◌∷◌, None, refl, ap, sym, subst, ◌∙◌, Host, same_host, Flow, Answer, HostMessage, same_host-refl, same_host-true, PairState, NcpState, opening_state, pair_with, refusal, served, offered, Request, IsRanged, all_gone, after_request, opening_has, request_keeps, same_kept, End, nothing, Mark, placed_event, Side, Sockets, Who, Event, Message, Reset, Reply, Other, In, are, place, event_of, event_by, Moment, Crossed, Asked, IsNext, IsStory, event_in, events_of, places, program, law_events, AreOurs, Network}
 use Rattle.host_keeps_pairing.specs.Ends.{HasEnd, kept_in}
-use Rattle.reset_law.specs.Boxes.{Box, Empty, Waiting, Taken, boxes, WaitsWith}
+use Rattle.reset_law.specs.Boxes.{Box, Empty, Waiting, Taken, WaitsWith}
 use Rattle.net_sim.proofs.lemmas.{by_request, place_same, places_same, story_agrees}
 use Rattle.interface.specs.declared.crossing.Crossing.TheVariants as crossing
 use Rattle.interface.specs.declared.crossing.Inbound.TheVariants as inbound
@@ -135,7 +135,7 @@ module _ (s : Sockets) (is_pair : IsPair s) (who : Who) (h p : Host) (origin : �
       by false e =
           quiet_turn (Asked g r) moments story quiet
           (subst (λ (b : Bool). HasEnd origin own foreign (pair_with p (if b then served (program h moments) r else program h moments).peers) (kept_in (pair_with p (if b then served (program h moments) r else program h moments).peers) (Side_of moments).end)) (sym e)
-          (same_kept origin own foreign (pair_with p (program h moments).peers) (Side_of moments).end t))
+          (same_kept origin own foreign _ _ t))
 
     -- ---- what goes out
 
@@ -147,7 +147,7 @@ module _ (s : Sockets) (is_pair : IsPair s) (who : Who) (h p : Host) (origin : �
         → Has origin own foreign p (offered (program h moments) (places moments)).0 (all_gone (if same_host p m.flow.destination then read_marks (places moments) own foreign m.flow.link.0 m.text else []) (Side_of moments).end)
     out_here m moments story n ranged t =
         subst (λ (y : HostMessage). Has origin own foreign p (offered (program h moments) (places moments)).0 (all_gone (if same_host p y.flow.destination then read_marks (places moments) own foreign y.flow.link.0 y.text else []) (Side_of moments).end)) (sym n.message)
-        (out_has origin own foreign (program h moments) (places moments) n.peer n.parcel (pair h n.peer.host (events_of moments)) p (Side_of moments).end n.order n.next ranged (λ to. story_agrees hosts moments h n.peer.host (ours.0, subst (λ (y : Host). hosts.strange y ≡ false) (same_host-true p n.peer.host to) ours.1) story) t (same_host p n.peer.host) refl)
+        (out_has origin own foreign _ _ n.peer _ _ p _ n.order n.next ranged (λ to. story_agrees hosts moments h n.peer.host (ours.0, subst (λ (y : Host). hosts.strange y ≡ false) (same_host-true p _ to) ours.1) story) t _ refl)
 
     pub out_turn : (m : HostMessage) (moments : List Moment) → IsStory hosts (Crossed (crossing.Out m) ∷ moments) → IsRanged (program h moments) → Tie moments → Tie (Crossed (crossing.Out m) ∷ moments)
     out_turn m moments story ranged t =
@@ -155,15 +155,15 @@ module _ (s : Sockets) (is_pair : IsPair s) (who : Who) (h p : Host) (origin : �
         let q : PairState = pair_with p (program h (Crossed (crossing.Out m) ∷ moments)).peers in
         let z : End = all_gone (said_out m moments) (Side_of moments).end in
         let gone : Has origin own foreign p (program h (Crossed (crossing.Out m) ∷ moments)) (all_gone (when_all (same_host h m.flow.source) (same_host p m.flow.destination) (read_marks (places moments) own foreign m.flow.link.0 m.text)) (Side_of moments).end) =
-        out_by (same_host h m.flow.source) (offered (program h moments) (places moments)).0 (program h moments) (if same_host p m.flow.destination then read_marks (places moments) own foreign m.flow.link.0 m.text else []) (Side_of moments).end
-        (λ same. out_here m moments story.1 (subst (λ (y : Host). IsNext (program y moments) m) (sym (same_host-true h m.flow.source same)) (story.0 (subst (λ (y : Host). hosts.strange y ≡ false) (same_host-true h m.flow.source same) ours.0))) ranged t) t in
+        out_by (same_host h m.flow.source) (offered (program h moments) (places moments)).0 (program h moments) (if same_host p m.flow.destination then read_marks (places moments) own foreign m.flow.link.0 m.text else []) _
+        (λ same. out_here m moments story.1 (subst (λ (y : Host). IsNext (program y moments) m) (sym (same_host-true h _ same)) (story.0 (subst (λ (y : Host). hosts.strange y ≡ false) (same_host-true h _ same) ours.0))) ranged t) t in
         let here : Has origin own foreign p (program h (Crossed (crossing.Out m) ∷ moments)) (all_gone (said_out m moments) (Side_of moments).end) =
         subst (λ (n : ℕ). Has origin own foreign p (program h (Crossed (crossing.Out m) ∷ moments)) (all_gone (when_all (same_host h m.flow.source) (same_host p m.flow.destination) (read_marks n own foreign m.flow.link.0 m.text)) (Side_of moments).end)) (sym (place_is moments)) gone in
         let said : at_texts s who (stay.said_by h p 0 (placed_event (event_of (crossing.Out m)) (events_of moments))) ≡ said_out m moments =
-        said_is s is_pair who h p m.flow.source m.flow.destination m.flow.link.0 (place (events_of moments)) m.text in
+        said_is s is_pair who h p _ _ _ _ m.text in
         tie_by origin own foreign h p (at_texts s who) (at_texts s (other who)) (placed_event (event_of (crossing.Out m)) (events_of moments)) (law_events moments) (Side_of moments)
-        (pair_with p (program h (Crossed (crossing.Out m) ∷ moments)).peers) (all_gone (said_out m moments) (Side_of moments).end)
-        (ready_is hosts h p (Crossed (crossing.Out m) ∷ moments) ours story) refl (same_kept origin own foreign (pair_with p (program h (Crossed (crossing.Out m) ∷ moments)).peers) (all_gone (said_out m moments) (Side_of moments).end) here)
+        (pair_with p (program h (Crossed (crossing.Out m) ∷ moments)).peers) _
+        (ready_is hosts h p (Crossed (crossing.Out m) ∷ moments) ours story) refl (same_kept origin own foreign _ _ here)
         (ap (λ (ms : List Mark). all_gone ms (Side_of moments).end) (sym said)
         ∙ sym (says_end (at_texts s who (stay.said_by h p 0 (placed_event (event_of (crossing.Out m)) (events_of moments)))) (Side_of moments))
         ∙ sym (hears_none (stay.stays h p (law_events moments)) (all_says (at_texts s who (stay.said_by h p 0 (placed_event (event_of (crossing.Out m)) (events_of moments)))) (Side_of moments))))
@@ -180,12 +180,12 @@ module _ (s : Sockets) (is_pair : IsPair s) (who : Who) (h p : Host) (origin : �
     pub in_away : (m : HostMessage) (moments : List Moment) → IsStory hosts (Crossed (crossing.In m) ∷ moments) → ((same_host h m.flow.destination ≡ false) ⊎ (same_host p m.flow.source ≡ false)) → Tie moments → Tie (Crossed (crossing.In m) ∷ moments)
     in_away m moments story away t =
         quiet_turn (Crossed (crossing.In m)) moments story
-        (away_quiet m.flow.source m.flow.destination m.flow.link.0 (with_box (boxes m.flow.source m.flow.destination (events_of moments) m.flow.link.0) (message_on m.flow.link.0 m.text)) (Side_of moments) (law_events moments)
-        (pair_with p (program h (Crossed (crossing.In m) ∷ moments)).peers) (off (same_host h m.flow.destination) (same_host p m.flow.source) away) (swap_off (same_host h m.flow.destination) (same_host p m.flow.source) away))
-        (same_turn (same_host h m.flow.destination) (accepted (program h moments) (inbound.Message m) (places moments)).0 (program h moments) (Side_of moments).end
+        (away_quiet _ _ _ _ (Side_of moments) (law_events moments)
+        (pair_with p (program h (Crossed (crossing.In m) ∷ moments)).peers) (off _ _ away) (swap_off _ _ away))
+        (same_turn (same_host h m.flow.destination) _ _ _
         (λ here. elim away [
           | inl off ↦ absurd (let both : true ≡ false = sym here ∙ off in cc)
           | inr off ↦
-              same_kept origin own foreign (pair_with p (accepted (program h moments) (inbound.Message m) (places moments)).0.peers) (Side_of moments).end
-              (in_leaves origin own foreign (program h moments) m (places moments) p (Side_of moments).end off t)
+              same_kept origin own foreign _ _
+              (in_leaves origin own foreign _ m _ p _ off t)
         ]) t)

@@ -96,9 +96,9 @@ two_fits false m ms es r h = h
 pub receiver_fits : (s : Sockets) (ws : List Word) (xs : List Step) → AreSteps (all_heard Receiver ws xs) → AllFit (at s ws) (receiver s xs).end
 receiver_fits s [] xs h = tt
 receiver_fits s (w ∷ ws) xs h =
-    one_fits _ w.mark (at s ws) _ (run_at s (Hears Receiver w ∷ xs) (under_heard Receiver ws _ h)) (receiver_fits s ws (Hears Receiver w ∷ xs) h)
+    one_fits _ w.mark _ _ (run_at s (Hears Receiver w ∷ xs) (under_heard Receiver ws _ h)) (receiver_fits s ws (Hears Receiver w ∷ xs) h)
 
 pub sender_fits : (s : Sockets) (ws : List Word) (xs : List Step) → AreSteps (all_heard Sender ws xs) → AllFit (at s ws) (sender s xs).end
 sender_fits s [] xs h = tt
 sender_fits s (w ∷ ws) xs h =
-    two_fits _ w.mark (at s ws) _ (run_at s (Hears Sender w ∷ xs) (under_heard Sender ws _ h)) (sender_fits s ws (Hears Sender w ∷ xs) h)
+    two_fits _ w.mark _ _ (run_at s (Hears Sender w ∷ xs) (under_heard Sender ws _ h)) (sender_fits s ws (Hears Sender w ∷ xs) h)

@@ -1,5 +1,5 @@
 -- Each moment reports no openings at two sockets but those that the law says.
-use Rattle.world_keeps_pairing.proofs.Common.{◌≡◌, ◌⊎◌, inl, inr, ℕ, Bool, true, false, if◌then◌else◌, List, [], ◌∷◌, refl, ap, sym, subst, ◌∙◌, Host, same_host, Flow, Answer, HostMessage, same_host-true, commands_of, accepted, offered, Request, answer_about, message_about, offer_about, IsRanged, AllFit, marks, AreAmong, all_lives_gone, all_lives_taken, with_openings, answer_other, offer_tells, End, mark_taken, Mark, placed_event, with_box, Sockets, Who, boxes, Event, place, pair, event_of, message_on, Moment, Crossed, Asked, IsNext, IsStory, event_in, events_of, places, program, host_in, notices_by, by_request, story_agrees, law_events, with_lives, keeps, mixed_kept, AreOurs, Network}
+use Rattle.world_keeps_pairing.proofs.Common.{◌≡◌, ◌⊎◌, inl, inr, ℕ, Bool, true, false, if◌then◌else◌, List, [], ◌∷◌, refl, ap, sym, subst, ◌∙◌, Host, same_host, Flow, Answer, HostMessage, same_host-true, commands_of, accepted, offered, Request, answer_about, message_about, offer_about, IsRanged, AllFit, marks, AreAmong, all_lives_gone, all_lives_taken, with_openings, answer_other, offer_tells, End, mark_taken, Mark, placed_event, Sockets, Who, Event, pair, event_of, Moment, Crossed, Asked, IsNext, IsStory, event_in, events_of, places, program, host_in, notices_by, by_request, story_agrees, law_events, with_lives, keeps, mixed_kept, AreOurs, Network}
 use Rattle.pairing_law.specs.Sides.{Side, hears, says, Life, lives_taken}
 use Rattle.interface.specs.declared.crossing.Crossing.TheVariants as crossing
 use Rattle.interface.specs.declared.crossing.Inbound.TheVariants as inbound
@@ -117,7 +117,7 @@ module _ (s : Sockets) (is_pair : IsPair s) (who : Who) (h p : Host) (origin : �
         hears_no_lives (stay.stays h p (law_events moments)) (all_says (at_texts s who (stay.said_by h p 0 (placed_event (event_of (crossing.Out m)) (events_of moments)))) (Side_of s is_pair who h p origin moments))
         ∙ says_lives (at_texts s who (stay.said_by h p 0 (placed_event (event_of (crossing.Out m)) (events_of moments)))) (Side_of s is_pair who h p origin moments)
         ∙ ap (λ (ms : List Mark). all_lives_gone ms (Side_of s is_pair who h p origin moments).end (Side_of s is_pair who h p origin moments).lives)
-        (said_is s is_pair who h p m.flow.source m.flow.destination m.flow.link.0 (place (events_of moments)) m.text)
+        (said_is s is_pair who h p _ _ _ _ m.text)
 
     out_told : (m : HostMessage) (moments : List Moment) → IsStory hosts moments → IsNext (program h moments) m → IsRanged (program h moments) → Tie s is_pair who h p origin moments → Among moments → same_host p m.flow.destination ≡ true
         → AreAmong (all_of_peer origin h p (own_of who s) (foreign_of who s) (offered (program h moments) (places moments)).1 (Lives_of moments))
@@ -125,17 +125,17 @@ module _ (s : Sockets) (is_pair : IsPair s) (who : Who) (h p : Host) (origin : �
     out_told m moments story n ranged t k same =
         let to : same_host p n.peer.host ≡ true = ap (λ (y : HostMessage). same_host p y.flow.destination) (sym n.message) ∙ same in
         let there : Has origin (own_of who s) (foreign_of who s) n.peer.host (program h moments) (Side_of s is_pair who h p origin moments).end =
-        subst (λ (y : Host). Has origin (own_of who s) (foreign_of who s) y (program h moments) (Side_of s is_pair who h p origin moments).end) (same_host-true p n.peer.host to) t in
+        subst (λ (y : Host). Has origin (own_of who s) (foreign_of who s) y (program h moments) (Side_of s is_pair who h p origin moments).end) (same_host-true p _ to) t in
         let tells : AreAmong (with_openings origin (own_of who s) (foreign_of who s) (offered (program h moments) (places moments)).1 (Lives_of moments))
         (all_lives_gone (marks (places moments) (own_of who s) (foreign_of who s) (commands_of n.peer.pair n.parcel)) (Side_of s is_pair who h p origin moments).end (Side_of s is_pair who h p origin moments).lives) =
-        offer_tells origin (own_of who s) (foreign_of who s) _ _ n.peer n.parcel _ _ _ n.order n.next there k in
+        offer_tells origin (own_of who s) (foreign_of who s) _ _ n.peer _ _ _ _ n.order n.next there k in
         subst (λ (y : HostMessage). AreAmong (all_of_peer origin h p (own_of who s) (foreign_of who s) (offered (program h moments) (places moments)).1 (Lives_of moments))
         (all_lives_gone (read_marks (places moments) (own_of who s) (foreign_of who s) y.flow.link.0 y.text) (Side_of s is_pair who h p origin moments).end (Side_of s is_pair who h p origin moments).lives)) (sym n.message)
         (subst (λ (ms : List Mark). AreAmong (all_of_peer origin h p (own_of who s) (foreign_of who s) (offered (program h moments) (places moments)).1 (Lives_of moments))
         (all_lives_gone ms (Side_of s is_pair who h p origin moments).end (Side_of s is_pair who h p origin moments).lives))
-        (goes_marks origin (own_of who s) (foreign_of who s) _ _ n.peer n.parcel _ n.order n.next ranged (story_agrees hosts moments h n.peer.host (ours.0, subst (λ (y : Host). hosts.strange y ≡ false) (same_host-true p n.peer.host to) ours.1) story))
+        (goes_marks origin (own_of who s) (foreign_of who s) _ _ n.peer _ _ n.order n.next ranged (story_agrees hosts moments h _ (ours.0, subst (λ (y : Host). hosts.strange y ≡ false) (same_host-true p _ to) ours.1) story))
         (subst (λ (l : List Life). AreAmong l (all_lives_gone (marks (places moments) (own_of who s) (foreign_of who s) (commands_of n.peer.pair n.parcel)) (Side_of s is_pair who h p origin moments).end (Side_of s is_pair who h p origin moments).lives))
-        (sym (about_peer origin h p (own_of who s) (foreign_of who s) n.peer.host _ _ (offer_about _ _ n.peer n.parcel n.next) to)) tells))
+        (sym (about_peer origin h p (own_of who s) (foreign_of who s) _ _ _ (offer_about _ _ n.peer _ n.next) to)) tells))
 
     out_by : (b c : Bool) (ms : List Mark) (x : End) (now old lives : List Life) → (b ≡ true → c ≡ true → AreAmong now (all_lives_gone ms x lives)) → (b ≡ true → c ≡ false → now ≡ old) → AreAmong old lives
         → AreAmong (if b then now else old) (all_lives_gone (when_all b c ms) x lives)
@@ -147,35 +147,35 @@ module _ (s : Sockets) (is_pair : IsPair s) (who : Who) (h p : Host) (origin : �
     out_among m moments story ranged t k =
         let x : Side = Side_of s is_pair who h p origin moments in
         by_lives (Crossed (crossing.Out m)) moments
-        (all_lives_gone (when_all (same_host h m.flow.source) (same_host p m.flow.destination) (read_marks (places moments) (own_of who s) (foreign_of who s) m.flow.link.0 m.text)) (Side_of s is_pair who h p origin moments).end (Side_of s is_pair who h p origin moments).lives)
+        _
         (out_lives m moments
         ∙ ap (λ (n : ℕ). all_lives_gone (when_all (same_host h m.flow.source) (same_host p m.flow.destination) (read_marks n (own_of who s) (foreign_of who s) m.flow.link.0 m.text)) (Side_of s is_pair who h p origin moments).end (Side_of s is_pair who h p origin moments).lives) (place_is moments))
-        (out_by (same_host h m.flow.source) (same_host p m.flow.destination) (read_marks (places moments) (own_of who s) (foreign_of who s) m.flow.link.0 m.text) (Side_of s is_pair who h p origin moments).end
-        (Now (Crossed (crossing.Out m)) moments) (Lives_of moments) (Side_of s is_pair who h p origin moments).lives new same k) where
+        (out_by _ _ (read_marks (places moments) (own_of who s) (foreign_of who s) m.flow.link.0 m.text) (Side_of s is_pair who h p origin moments).end
+        _ _ _ new same k) where
           new : same_host h m.flow.source ≡ true → same_host p m.flow.destination ≡ true → AreAmong (Now (Crossed (crossing.Out m)) moments)
               (all_lives_gone (read_marks (places moments) (own_of who s) (foreign_of who s) m.flow.link.0 m.text) (Side_of s is_pair who h p origin moments).end (Side_of s is_pair who h p origin moments).lives)
           new e f =
-              let is : h ≡ m.flow.source = same_host-true h m.flow.source e in
+              let is : h ≡ m.flow.source = same_host-true h _ e in
               subst (λ (y : Host). AreAmong (all_of_peer origin h p (own_of who s) (foreign_of who s) (offered (program y moments) (places moments)).1 (Lives_of moments))
               (all_lives_gone (read_marks (places moments) (own_of who s) (foreign_of who s) m.flow.link.0 m.text) (Side_of s is_pair who h p origin moments).end (Side_of s is_pair who h p origin moments).lives)) is
               (out_told m moments story.1 (subst (λ (y : Host). IsNext (program y moments) m) (sym is) (story.0 (subst (λ (y : Host). hosts.strange y ≡ false) is ours.0))) ranged t k f)
 
           same : same_host h m.flow.source ≡ true → same_host p m.flow.destination ≡ false → Now (Crossed (crossing.Out m)) moments ≡ Lives_of moments
           same e f =
-              let n : IsNext (program m.flow.source moments) m = story.0 (subst (λ (y : Host). hosts.strange y ≡ false) (same_host-true h m.flow.source e) ours.0) in
+              let n : IsNext (program m.flow.source moments) m = story.0 (subst (λ (y : Host). hosts.strange y ≡ false) (same_host-true h _ e) ours.0) in
               let away : same_host p n.peer.host ≡ false = ap (λ (y : HostMessage). same_host p y.flow.destination) (sym n.message) ∙ f in
-              about_other origin h p (own_of who s) (foreign_of who s) n.peer.host (offered (program m.flow.source moments) (places moments)).1 (Lives_of moments) (offer_about (program m.flow.source moments) (places moments) n.peer n.parcel n.next) away
+              about_other origin h p (own_of who s) (foreign_of who s) _ _ _ (offer_about _ _ n.peer _ n.next) away
 
     -- ---- what comes in of others, or for others
 
     pub in_away_among : (m : HostMessage) (moments : List Moment) → ((same_host h m.flow.destination ≡ false) ⊎ (same_host p m.flow.source ≡ false)) → Among moments → Among (Crossed (crossing.In m) ∷ moments)
     in_away_among m moments away k =
         quiet_among (Crossed (crossing.In m)) moments refl
-        (heard_off_in h p m.flow.source m.flow.destination m.flow.link.0 (with_box (boxes m.flow.source m.flow.destination (events_of moments) m.flow.link.0) (message_on m.flow.link.0 m.text))
-        (swap_off s is_pair who h p origin (same_host h m.flow.destination) (same_host p m.flow.source) away))
+        (heard_off_in h p _ _ _ _
+        (swap_off s is_pair who h p origin (same_host h m.flow.destination) _ away))
         (λ here. elim away [
           | inl not_here ↦ absurd (let both : true ≡ false = sym here ∙ not_here in cc)
           | inr not_there ↦
-              about_other origin h p (own_of who s) (foreign_of who s) m.flow.source (accepted (program m.flow.destination moments) (inbound.Message m) (places moments)).1 (Lives_of moments)
-              (message_about (program m.flow.destination moments) m (places moments)) not_there
+              about_other origin h p (own_of who s) (foreign_of who s) _ _ _
+              (message_about _ m _) not_there
         ]) k

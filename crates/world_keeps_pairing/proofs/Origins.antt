@@ -31,12 +31,12 @@ seen_waiting link (mail.Taken n text) place message is = absurd (let both : Take
 
 origin_is : (none : ℕ) (log newer : List Crossing) (m : HostMessage) (moments : List Moment) → log ≡ newer ++ crossings_of (Crossed (crossing.In m) ∷ moments) → IsOrigin (origin_or none log) (Crossed (crossing.In m)) moments
 origin_is none log newer m moments is = λ place box zero.
-    let seen : seen_box m.flow.link.0 (mail.box_of m.flow (crossings_of moments)) ≡ Waiting place (message_on m.flow.link.0 m.text) = sym (box_same m.flow.source m.flow.destination moments m.flow.link.0) ∙ box in
-    let waits : (text : List Bool) × (mail.box_of m.flow (crossings_of moments) ≡ mail.Waiting place text) = seen_waiting m.flow.link.0 (mail.box_of m.flow (crossings_of moments)) place (message_on m.flow.link.0 m.text) seen in
-    let out : last_out m.flow (crossings_of moments) ≡ Some place = waiting_out m.flow place waits.0 (crossings_of moments) waits.1 in
+    let seen : seen_box m.flow.link.0 (mail.box_of m.flow (crossings_of moments)) ≡ Waiting place (message_on m.flow.link.0 m.text) = sym (box_same _ _ moments _) ∙ box in
+    let waits : (text : List Bool) × (mail.box_of m.flow (crossings_of moments) ≡ mail.Waiting place text) = seen_waiting _ _ place _ seen in
+    let out : last_out m.flow (crossings_of moments) ≡ Some place = waiting_out m.flow place _ (crossings_of moments) waits.1 in
     let flow : control_flow m.flow.source m.flow.destination ≡ m.flow = ap (λ (n : ℕ). flow_of m.flow.source m.flow.destination n) (sym (eqb-true m.flow.link.0 0 zero)) in
     let parts : log ≡ (newer ++ crossing.In m ∷ []) ++ crossings_of moments = is ∙ sym (append_assoc newer (crossing.In m ∷ []) (crossings_of moments)) in
-    let older : book.before (places moments) log ≡ crossings_of moments = ap (λ (l : List Crossing). book.before (places moments) l) parts ∙ before_is (newer ++ crossing.In m ∷ []) (crossings_of moments) (places moments) (places_same moments) in
+    let older : book.before (places moments) log ≡ crossings_of moments = ap (λ (l : List Crossing). book.before (places moments) l) parts ∙ before_is _ _ _ (places_same moments) in
     ap (λ (l : List Crossing). place_or none (last_out (control_flow m.flow.source m.flow.destination) l)) older
     ∙ ap (λ (f : Flow). place_or none (last_out f (crossings_of moments))) flow
     ∙ ap (place_or none) out

@@ -38,12 +38,12 @@ alone_is test only k (Wrong code octets ∷ o ∷ orders) e = absurd (let no : f
 
 sort_by : (link : ℕ) (text : List Bool) (zero rst rrp : Bool) → (link == 0) ≡ zero → is_alone is_rst (orders_of text) ≡ rst → is_alone is_rrp (orders_of text) ≡ rrp → Sort link text
 sort_by link text false rst rrp e f g = AText (rw e refl)
-sort_by link text true true rrp e f g = AnRst e (alone_is is_rst command.Rst rst_only _ f) (rw (e, f) refl)
-sort_by link text true false true e f g = AnRrp e (alone_is is_rrp command.Rrp rrp_only _ g) (rw (e, f, g) refl)
+sort_by link text true true rrp e f g = AnRst e (alone_is is_rst _ rst_only _ f) (rw (e, f) refl)
+sort_by link text true false true e f g = AnRrp e (alone_is is_rrp _ rrp_only _ g) (rw (e, f, g) refl)
 sort_by link text true false false e f g = AText (rw (e, f, g) refl)
 
 pub sort_of : (link : ℕ) (text : List Bool) → Sort link text
-sort_of link text = sort_by link text (link == 0) _ _ refl refl refl
+sort_of link text = sort_by link text _ _ _ refl refl refl
 
 -- ---- plain orders have neither RST nor RRP
 
@@ -82,7 +82,7 @@ module _ (origin : ℕ → ℕ) (own foreign : ℕ) where
   pub goes_marks : (s : NcpState) (stamp : ℕ) (g : Peer) (x : Parcel) (a : Pair) → AreInOrder s.peers → next_in s.peers ≡ Some (g, x) → IsRanged s → Agrees (pair_with g.host s.peers) a
       → marks stamp own foreign (commands_of g.pair x) ≡ read_marks stamp own foreign (link_for x) (text_for g.pair x)
   goes_marks s stamp g x a order n ranged agrees =
-      parcel_marks stamp own foreign g.pair a x (subst (λ (q : PairState). Agrees q a) (next_pair s.peers g x order n) agrees) (next_is g x s.peers n) (offer_read s g x ranged n)
+      parcel_marks stamp own foreign g.pair a x (subst (λ (q : PairState). Agrees q a) (next_pair _ g x order n) agrees) (next_is g x s.peers n) (offer_read s g x ranged n)
 
   pub out_may : (s : NcpState) (stamp : ℕ) (g : Peer) (x : Parcel) (a : Pair) (e : End) (next : ℕ) → AreInOrder s.peers → next_in s.peers ≡ Some (g, x) → IsRanged s → Agrees (pair_with g.host s.peers) a
       → next ≤ stamp → Has g.host s e → MayAllGo (read_marks stamp own foreign (link_for x) (text_for g.pair x)) e next
@@ -134,7 +134,7 @@ module _ (origin : ℕ → ℕ) (own foreign : ℕ) where
       → Has m.flow.source s e → (zero : Bool) → (m.flow.link.0 == 0) ≡ zero
       → Has m.flow.source (accepted s (inbound.Message m) stamp).0
       (if zero then after_text (origin stamp) (is_ready (pair_with m.flow.source s.peers).phase) (message_on m.flow.link.0 m.text) (orders_of m.text) e else e)
-  in_has s m stamp e mine apart fit h true zero = control_has s m stamp e mine zero apart (λ r j. fit r zero j) h (sort_of m.flow.link.0 m.text)
+  in_has s m stamp e mine apart fit h true zero = control_has s m stamp e mine zero apart (λ r j. fit r zero j) h (sort_of _ m.text)
   in_has s m stamp e mine apart fit h false zero = message_data origin own foreign s m stamp e mine zero h
 
   -- and of another
@@ -145,7 +145,7 @@ module _ (origin : ℕ → ℕ) (own foreign : ℕ) where
   pub answer_has : (s : NcpState) (kind : Answer) (f : Flow) (stamp : ℕ) (p : Host) (e : End) → Has p s e → (c : Bool) → same_host p f.destination ≡ c
       → HasEnd origin own foreign (pair_with p (accepted s (inbound.Answer kind f) stamp).0.peers) (kept_in (pair_with p (accepted s (inbound.Answer kind f) stamp).0.peers) e)
   answer_has s kind f stamp p e h true same =
-      let is : p ≡ f.destination = same_host-true p f.destination same in
+      let is : p ≡ f.destination = same_host-true p _ same in
       subst (λ (y : Host). HasEnd origin own foreign (pair_with y (accepted s (inbound.Answer kind f) stamp).0.peers) (kept_in (pair_with y (accepted s (inbound.Answer kind f) stamp).0.peers) e)) (sym is)
       (answer_keeps origin own foreign s kind f stamp e (subst (λ (y : Host). Has y s e) is h))
   answer_has s kind f stamp p e h false same =

@@ -184,15 +184,15 @@ module _ (s : Sockets) (a b : Host) where
   pub receiver_half : (events : List Event) → receiver s (steps a b events) ≡ half a b (at_texts s Receiver) (at_texts s Sender) events
   receiver_half [] = refl
   receiver_half (e ∷ events) =
-      let under : List Step = steps_left (keeps a b e events) Receiver (steps_left (keeps b a e events) Sender (taken_by a b e events (spoken_by a b e (steps a b events)))) in
-      receiver_meets s (stay.begins a b e events) under
+      let under : List Step = steps_left (keeps a b e events) Receiver (steps_left (keeps b a e events) Sender (taken_by a b e events _)) in
+      receiver_meets s _ under
       ∙ ap (met_if (stay.begins a b e events)) (receiver_before e events ∙ ap (before a b (at_texts s Receiver) (at_texts s Sender) e events) (receiver_half events))
 
   pub sender_half : (events : List Event) → sender s (steps a b events) ≡ half b a (at_texts s Sender) (at_texts s Receiver) events
   sender_half [] = refl
   sender_half (e ∷ events) =
-      let under : List Step = steps_left (keeps a b e events) Receiver (steps_left (keeps b a e events) Sender (taken_by a b e events (spoken_by a b e (steps a b events)))) in
-      sender_meets s (stay.begins a b e events) under
+      let under : List Step = steps_left (keeps a b e events) Receiver (steps_left (keeps b a e events) Sender (taken_by a b e events _)) in
+      sender_meets s _ under
       ∙ ap (met_if (stay.begins a b e events)) (sender_before e events ∙ ap (before b a (at_texts s Sender) (at_texts s Receiver) e events) (sender_half events))
       ∙ ap (λ (g : Bool). met_if g (before b a (at_texts s Sender) (at_texts s Receiver) e events (half b a (at_texts s Sender) (at_texts s Receiver) events))) (begins_either a b e events)
 
@@ -230,7 +230,7 @@ met_end true x = refl
 met_end false x = refl
 
 is_nothing : (x : End) → Unsaid x → Unheard x → x ≡ nothing
-is_nothing x h k = made x.asked None x.partner None x.gone false x.taken false h.0 k.0 h.1 k.1 where
+is_nothing x h k = made _ None _ None x.gone false _ false h.0 k.0 h.1 k.1 where
   end : Option ℕ → Option ℕ → Bool → Bool → End
   end asked partner gone taken = record { asked = asked; partner = partner; gone = gone; taken = taken }
 
@@ -260,16 +260,16 @@ module _ (h p : Host) (spoken heard : List (List Bool) → List Mark) (mute : sp
   unheard [] e = (refl, refl)
   unheard (e ∷ events) out =
       let b : Side = before h p spoken heard e events (Half events) in
-      subst (λ (x : End). Unheard x) (sym (met_end (stay.begins h p e events) b))
-      (unheard_kept (keeps h p e events) (stay.stays h p events) (spoken (stay.said_by h p 0 e)) (heard (stay.heard_by p h 0 e)) (Half events)
-      (stays_before (stay.begins h p e events) (keeps h p e events) (stay.stays h p events) out) (unheard events))
+      subst (λ (x : End). Unheard x) (sym (met_end _ b))
+      (unheard_kept _ _ (spoken _) (heard (stay.heard_by p h 0 e)) (Half events)
+      (stays_before _ _ _ out) (unheard events))
 
   -- also where it begins to stay
   unheard_there : (e : Event) (events : List Event) → stay.stays h p events ≡ false → Unheard (Half (e ∷ events)).end
   unheard_there e events out =
       let b : Side = before h p spoken heard e events (Half events) in
-      subst (λ (x : End). Unheard x) (sym (met_end (stay.begins h p e events) b))
-      (unheard_by (keeps h p e events) (stay.stays h p events) (spoken (stay.said_by h p 0 e)) (heard (stay.heard_by p h 0 e)) (Half events) out (unheard events out))
+      subst (λ (x : End). Unheard x) (sym (met_end _ b))
+      (unheard_by _ _ (spoken _) (heard (stay.heard_by p h 0 e)) (Half events) out (unheard events out))
 
   -- who has said nothing since it dropped its connections has asked for nothing
   abbrev Mute : Event → List Event → Type 0
@@ -316,9 +316,9 @@ module _ (h p : Host) (spoken heard : List (List Bool) → List Mark) (mute : sp
 
   told_mute : (t : Bool) (l : ℕ) (k : Answer) (q : Pair) → is_ready (pair_moved (when t (Hear l k)) q).phase ≡ true → (pair_moved (when t (Hear l k)) q).begun ≡ false → q.begun ≡ false
   told_mute true l answer.Rfnm q r e = e
-  told_mute true l answer.Dead q r e = failed_mute q.phase q.owed q.begun r e
-  told_mute true l answer.Incomplete q r e = failed_mute q.phase q.owed q.begun r e
-  told_mute true l answer.NotTaken q r e = failed_mute q.phase q.owed q.begun r e
+  told_mute true l answer.Dead q r e = failed_mute _ q.owed _ r e
+  told_mute true l answer.Incomplete q r e = failed_mute _ q.owed _ r e
+  told_mute true l answer.NotTaken q r e = failed_mute _ q.owed _ r e
   told_mute false l k q r e = e
 
   call_mute : (t : Bool) (q : Pair) → is_ready (pair_moved (when t Call) q).phase ≡ true → (pair_moved (when t Call) q).begun ≡ false → q.begun ≡ false
@@ -358,5 +358,5 @@ module _ (h p : Host) (spoken heard : List (List Bool) → List Mark) (mute : sp
   pub nothing_there : (e : Event) (events : List Event) → (pair h p (e ∷ events)).begun ≡ false → stay.stays h p events ≡ false → (before h p spoken heard e events (Half events)).end ≡ nothing
   nothing_there e events none out =
       let b : Side = before h p spoken heard e events (Half events) in
-      let all : (met_if (stay.begins h p e events) b).end ≡ nothing = is_nothing (Half (e ∷ events)).end (unsaid (e ∷ events) none) (unheard_there e events out) in
-      sym (met_end (stay.begins h p e events) b) ∙ all
+      let all : (met_if (stay.begins h p e events) b).end ≡ nothing = is_nothing _ (unsaid (e ∷ events) none) (unheard_there e events out) in
+      sym (met_end _ b) ∙ all

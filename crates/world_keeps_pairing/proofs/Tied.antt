@@ -43,17 +43,17 @@ module _ (s : Sockets) (is_pair : IsPair s) (who : Who) (h p : Host) (origin : �
   out_may_here hosts ours m moments next story n ranged below t same =
       let to : same_host p n.peer.host ≡ true = ap (λ (y : HostMessage). same_host p y.flow.destination) (sym n.message) ∙ same in
       subst (λ (y : HostMessage). MayAllGo (read_marks (places moments) (own_of who s) (foreign_of who s) y.flow.link.0 y.text) (Side_of s is_pair who h p origin moments).end next) (sym n.message)
-      (out_may origin (own_of who s) (foreign_of who s) _ _ n.peer n.parcel _ _ next n.order n.next ranged (story_agrees hosts moments h n.peer.host (ours.0, subst (λ (y : Host). hosts.strange y ≡ false) (same_host-true p n.peer.host to) ours.1) story) below
-      (subst (λ (y : Host). Has origin (own_of who s) (foreign_of who s) y (program h moments) (Side_of s is_pair who h p origin moments).end) (same_host-true p n.peer.host to) t))
+      (out_may origin (own_of who s) (foreign_of who s) _ _ n.peer _ _ _ next n.order n.next ranged (story_agrees hosts moments h _ (ours.0, subst (λ (y : Host). hosts.strange y ≡ false) (same_host-true p _ to) ours.1) story) below
+      (subst (λ (y : Host). Has origin (own_of who s) (foreign_of who s) y (program h moments) (Side_of s is_pair who h p origin moments).end) (same_host-true p _ to) t))
 
   out_may_turn : (hosts : Network) → AreOurs hosts h p → (m : HostMessage) (moments : List Moment) → IsStory hosts (Crossed (crossing.Out m) ∷ moments) → IsRanged (program h moments) → (Side_of s is_pair who h p origin moments).next ≤ places moments → Tie s is_pair who h p origin moments → May (Crossed (crossing.Out m)) moments
   out_may_turn hosts ours m moments story ranged below t =
       let all : MayAllGo (said_out s is_pair who h p origin m moments) (Side_of s is_pair who h p origin moments).end (Side_of s is_pair who h p origin moments).next =
       subst (λ (n : ℕ). MayAllGo (when_all (same_host h m.flow.source) (same_host p m.flow.destination) (read_marks n (own_of who s) (foreign_of who s) m.flow.link.0 m.text)) (Side_of s is_pair who h p origin moments).end (Side_of s is_pair who h p origin moments).next) (sym (place_is moments))
       (may_if _ _ _ _ _
-      (λ e f. out_may_here hosts ours m moments (Side_of s is_pair who h p origin moments).next story.1 (subst (λ (y : Host). IsNext (program y moments) m) (sym (same_host-true h m.flow.source e)) (story.0 (subst (λ (y : Host). hosts.strange y ≡ false) (same_host-true h m.flow.source e) ours.0))) ranged below t f)) in
+      (λ e f. out_may_here hosts ours m moments (Side_of s is_pair who h p origin moments).next story.1 (subst (λ (y : Host). IsNext (program y moments) m) (sym (same_host-true h _ e)) (story.0 (subst (λ (y : Host). hosts.strange y ≡ false) (same_host-true h _ e) ours.0))) ranged below t f)) in
       subst (λ (ms : List Mark). MayAllGo ms (Side_of s is_pair who h p origin moments).end (Side_of s is_pair who h p origin moments).next)
-      (sym (said_is s is_pair who h p m.flow.source m.flow.destination m.flow.link.0 _ m.text)) all
+      (sym (said_is s is_pair who h p _ _ _ _ m.text)) all
 
   pub may_turn : (hosts : Network) → AreOurs hosts h p → (x : Moment) (moments : List Moment) → IsStory hosts (x ∷ moments) → IsRanged (program h moments) → (Side_of s is_pair who h p origin moments).next ≤ places moments → Tie s is_pair who h p origin moments → May x moments
   may_turn hosts ours (Crossed (crossing.Out m)) moments story ranged below t = out_may_turn hosts ours m moments story ranged below t
@@ -88,13 +88,13 @@ module _ (s : Sockets) (is_pair : IsPair s) (who : Who) (h p : Host) (origin : �
   out_next : (m : HostMessage) (moments : List Moment) → Next moments ≤ places moments → Next (Crossed (crossing.Out m) ∷ moments) ≤ 1 + places moments
   out_next m moments below =
       let said : at_texts s who (stay.said_by h p 0 (placed_event (event_of (crossing.Out m)) (events_of moments))) ≡ said_out s is_pair who h p origin m moments =
-      said_is s is_pair who h p m.flow.source m.flow.destination m.flow.link.0 (place (events_of moments)) m.text in
+      said_is s is_pair who h p _ _ _ _ m.text in
       let all : AllAt (place (events_of moments)) (said_out s is_pair who h p origin m moments) =
       when_at (same_host h m.flow.source) (same_host p m.flow.destination) (place (events_of moments)) _ (read_at (place (events_of moments)) m.flow.link.0 m.text) in
       let is : place (events_of moments) ≡ places moments = place_is moments in
       let low : Next moments ≤ place (events_of moments) + 1 = omega (arith, below, is) in
       let up : (all_says (said_out s is_pair who h p origin m moments) (Side_of s is_pair who h p origin moments)).next ≤ place (events_of moments) + 1 =
-      says_next (place (events_of moments)) (said_out s is_pair who h p origin m moments) (Side_of s is_pair who h p origin moments) all low in
+      says_next _ (said_out s is_pair who h p origin m moments) (Side_of s is_pair who h p origin moments) all low in
       let same : Next (Crossed (crossing.Out m) ∷ moments) ≡ (all_says (said_out s is_pair who h p origin m moments) (Side_of s is_pair who h p origin moments)).next =
       next_is (placed_event (event_of (crossing.Out m)) (events_of moments)) moments ∙ ap (λ (ms : List Mark). (all_says ms (Side_of s is_pair who h p origin moments)).next) said in
       omega (arith, up, same, is)
@@ -168,7 +168,7 @@ module _ (s : Sockets) (is_pair : IsPair s) (origin : ℕ → ℕ) (hosts : Netw
 
   is_heard : (place : ℕ) → (m.flow.link.0 == 0) ≡ true → heard_here (Other (tagged place m.text)) ≡ tagged place m.text ∷ []
   is_heard place zero =
-      ap (λ (t : Bool). if t then tagged place m.text ∷ [] else []) (ap (λ (t : Bool). t && 0 == m.flow.link.0) (are_same m.flow.source m.flow.destination) ∙ eqb-sym 0 m.flow.link.0 ∙ zero)
+      ap (λ (t : Bool). if t then tagged place m.text ∷ [] else []) (ap (λ (t : Bool). t && 0 == m.flow.link.0) (are_same m.flow.source m.flow.destination) ∙ eqb-sym 0 _ ∙ zero)
 
   -- as the one who receives
   receiver_text : (place : ℕ) → boxed s is_pair Receiver origin hosts m moments ours story run ≡ Other (tagged place m.text) → (m.flow.link.0 == 0) ≡ true → stay.stays m.flow.destination m.flow.source (law_events moments) ≡ true
@@ -185,8 +185,8 @@ module _ (s : Sockets) (is_pair : IsPair s) (origin : ℕ → ℕ) (hosts : Netw
       let taken : AreSteps (heard_in (stay.stays m.flow.destination m.flow.source (law_events moments)) Receiver (words_of Sender (heard_here (Other (tagged place m.text)))) under) =
       taken_steps m.flow.destination m.flow.source (event (Other (tagged place m.text))) (law_events moments) all in
       let heard : AreSteps (all_heard Receiver (words_of Sender (heard_here (Other (tagged place m.text)))) under) =
-      heard_all (stay.stays m.flow.destination m.flow.source (law_events moments)) Receiver (words_of Sender (heard_here (Other (tagged place m.text)))) under stays taken in
-      let fit : AllFit (at s (words_of Sender (heard_here (Other (tagged place m.text))))) (receiver s under).end = receiver_fits s (words_of Sender (heard_here (Other (tagged place m.text)))) under heard in
+      heard_all _ Receiver (words_of Sender (heard_here (Other (tagged place m.text)))) under stays taken in
+      let fit : AllFit (at s (words_of Sender (heard_here (Other (tagged place m.text))))) (receiver s under).end = receiver_fits s _ under heard in
       let is : receiver s under ≡ Side_of s is_pair Receiver m.flow.destination m.flow.source origin moments =
       receiver_deaf_if s (stay.stays m.flow.source m.flow.destination (law_events moments)) (words_of Receiver (stay.heard_by m.flow.destination m.flow.source 0 (event (Other (tagged place m.text))))) xs
       ∙ receiver_half s m.flow.destination m.flow.source (law_events moments) in
@@ -206,9 +206,9 @@ module _ (s : Sockets) (is_pair : IsPair s) (origin : ℕ → ℕ) (hosts : Netw
       (heard_in (stay.stays m.flow.destination m.flow.source (law_events moments)) Sender (words_of Receiver (heard_here (Other (tagged place m.text)))) xs)) =
       taken_steps m.flow.source m.flow.destination (event (Other (tagged place m.text))) (law_events moments) all in
       let heard : AreSteps (all_heard Sender (words_of Receiver (heard_here (Other (tagged place m.text)))) xs) =
-      heard_all (stay.stays m.flow.destination m.flow.source (law_events moments)) Sender (words_of Receiver (heard_here (Other (tagged place m.text)))) xs stays
+      heard_all _ Sender (words_of Receiver (heard_here (Other (tagged place m.text)))) xs stays
       (under_heard_in (stay.stays m.flow.source m.flow.destination (law_events moments)) Receiver (words_of Sender (stay.heard_by m.flow.destination m.flow.source 0 (event (Other (tagged place m.text))))) _ taken) in
-      let fit : AllFit (at s (words_of Receiver (heard_here (Other (tagged place m.text))))) (sender s xs).end = sender_fits s (words_of Receiver (heard_here (Other (tagged place m.text)))) xs heard in
+      let fit : AllFit (at s (words_of Receiver (heard_here (Other (tagged place m.text))))) (sender s xs).end = sender_fits s _ xs heard in
       subst (λ (x : Side). AllFit (marks_in place s.receive s.send (orders_of m.text)) x.end) (sender_half s m.flow.source m.flow.destination (law_events moments))
       (subst (λ (ms : List Mark). AllFit ms (sender s xs).end) (ap (at_texts s Receiver) (is_heard place zero) ∙ heard_is s is_pair Sender place m.text) fit)
 
@@ -218,25 +218,25 @@ module _ (s : Sockets) (is_pair : IsPair s) (origin : ℕ → ℕ) (hosts : Netw
   receiver_now : Sort m.flow.link.0 m.text → IsFrom s is_pair Receiver origin hosts m moments ours story run → AreSteps (steps m.flow.destination m.flow.source (law_events (Crossed (crossing.In m) ∷ moments)))
       → program_phases.is_ready (pair_with m.flow.source (program m.flow.destination moments).peers).phase ≡ true → (m.flow.link.0 == 0) ≡ true
       → AllFit (marks_in (origin (places moments)) s.send s.receive (orders_of m.text)) (Side_of s is_pair Receiver m.flow.destination m.flow.source origin moments).end
-  receiver_now (AnRst z orders is) from h ready zero = signal_fits s.send s.receive (origin (places moments)) _ (Side_of s is_pair Receiver m.flow.destination m.flow.source origin moments).end orders refl
-  receiver_now (AnRrp z orders is) from h ready zero = signal_fits s.send s.receive (origin (places moments)) _ (Side_of s is_pair Receiver m.flow.destination m.flow.source origin moments).end orders refl
+  receiver_now (AnRst z orders is) from h ready zero = signal_fits s.send _ _ _ _ orders refl
+  receiver_now (AnRrp z orders is) from h ready zero = signal_fits s.send _ _ _ _ orders refl
   receiver_now (AText is) from h ready zero =
       let n : (n : ℕ) × (boxes m.flow.source m.flow.destination (events_of moments) m.flow.link.0 ≡ Waiting n (message_on m.flow.link.0 m.text)) = place_in s is_pair Receiver origin hosts m moments ours story run in
-      let e : boxed s is_pair Receiver origin hosts m moments ours story run ≡ Other (tagged (place_in s is_pair Receiver origin hosts m moments ours story run).0 m.text) = boxed_is s is_pair Receiver origin hosts m moments ours story run (Other m.text) is in
+      let e : boxed s is_pair Receiver origin hosts m moments ours story run ≡ Other (tagged (place_in s is_pair Receiver origin hosts m moments ours story run).0 m.text) = boxed_is s is_pair Receiver origin hosts m moments ours story run _ is in
       subst (λ (k : ℕ). AllFit (marks_in k s.send s.receive (orders_of m.text)) (Side_of s is_pair Receiver m.flow.destination m.flow.source origin moments).end)
       (sym (from (place_in s is_pair Receiver origin hosts m moments ours story run).0 (place_in s is_pair Receiver origin hosts m moments ours story run).1 zero))
-      (receiver_text (place_in s is_pair Receiver origin hosts m moments ours story run).0 e zero (stays_as s is_pair Receiver origin hosts m moments ours story run (place_in s is_pair Receiver origin hosts m moments ours story run).0 e true ready) h)
+      (receiver_text _ e zero (stays_as s is_pair Receiver origin hosts m moments ours story run _ e true ready) h)
 
   sender_now : Sort m.flow.link.0 m.text → IsFrom s is_pair Sender origin hosts m moments ours story run → AreSteps (steps m.flow.source m.flow.destination (law_events (Crossed (crossing.In m) ∷ moments)))
       → program_phases.is_ready (pair_with m.flow.source (program m.flow.destination moments).peers).phase ≡ true → (m.flow.link.0 == 0) ≡ true
       → AllFit (marks_in (origin (places moments)) s.receive s.send (orders_of m.text)) (Side_of s is_pair Sender m.flow.destination m.flow.source origin moments).end
-  sender_now (AnRst z orders is) from h ready zero = signal_fits s.receive s.send (origin (places moments)) _ (Side_of s is_pair Sender m.flow.destination m.flow.source origin moments).end orders refl
-  sender_now (AnRrp z orders is) from h ready zero = signal_fits s.receive s.send (origin (places moments)) _ (Side_of s is_pair Sender m.flow.destination m.flow.source origin moments).end orders refl
+  sender_now (AnRst z orders is) from h ready zero = signal_fits _ s.send _ _ _ orders refl
+  sender_now (AnRrp z orders is) from h ready zero = signal_fits _ s.send _ _ _ orders refl
   sender_now (AText is) from h ready zero =
-      let e : boxed s is_pair Sender origin hosts m moments ours story run ≡ Other (tagged (place_in s is_pair Sender origin hosts m moments ours story run).0 m.text) = boxed_is s is_pair Sender origin hosts m moments ours story run (Other m.text) is in
+      let e : boxed s is_pair Sender origin hosts m moments ours story run ≡ Other (tagged (place_in s is_pair Sender origin hosts m moments ours story run).0 m.text) = boxed_is s is_pair Sender origin hosts m moments ours story run _ is in
       subst (λ (k : ℕ). AllFit (marks_in k s.receive s.send (orders_of m.text)) (Side_of s is_pair Sender m.flow.destination m.flow.source origin moments).end)
       (sym (from (place_in s is_pair Sender origin hosts m moments ours story run).0 (place_in s is_pair Sender origin hosts m moments ours story run).1 zero))
-      (sender_text (place_in s is_pair Sender origin hosts m moments ours story run).0 e zero (stays_as s is_pair Sender origin hosts m moments ours story run (place_in s is_pair Sender origin hosts m moments ours story run).0 e true ready) h)
+      (sender_text _ e zero (stays_as s is_pair Sender origin hosts m moments ours story run _ e true ready) h)
 
 -- ---- the run
 
@@ -272,13 +272,13 @@ module _ (hosts : Network) (origin : Host → Host → ℕ → ℕ) (a b : Host)
       let to_receiver : List Word = words_of Sender (stay.said_by b a 0 (placed_event (event_in x) (events_of moments))) in
       let to_sender : List Word = words_of Receiver (stay.said_by a b 0 (placed_event (event_in x) (events_of moments))) in
       let first : AreSteps (all_said Sender (words_of Sender (stay.said_by b a 0 (placed_event (event_in x) (events_of moments)))) (steps a b (law_events moments))) =
-      sender_speaks to_receiver (steps a b (law_events moments)) (texts_pairs Sender (stay.said_by b a 0 (placed_event (event_in x) (events_of moments)))) t.steps
+      sender_speaks to_receiver _ (texts_pairs Sender _) t.steps
       (λ s q. subst (λ (y : Side). MayAllGo (at s (words_of Sender (stay.said_by b a 0 (placed_event (event_in x) (events_of moments))))) y.end y.next) (sym (sender_half s a b (law_events moments)))
       (may_turn s q Sender b a (origin b a) hosts (ours.1, ours.0) x moments story (ranged b ours.1) (t.sender_next s q) (t.sender s q))) in
       let second : AreSteps (spoken_by a b (placed_event (event_in x) (events_of moments)) (steps a b (law_events moments))) =
-      receiver_speaks to_sender (all_said Sender to_receiver (steps a b (law_events moments))) (texts_pairs Receiver (stay.said_by a b 0 (placed_event (event_in x) (events_of moments)))) first
+      receiver_speaks to_sender _ (texts_pairs Receiver _) first
       (λ s q. subst (λ (y : Side). MayAllGo (at s (words_of Receiver (stay.said_by a b 0 (placed_event (event_in x) (events_of moments))))) y.end y.next)
-      (sym (receiver_waits s to_receiver (steps a b (law_events moments)) ∙ receiver_half s a b (law_events moments)))
+      (sym (receiver_waits s to_receiver _ ∙ receiver_half s a b (law_events moments)))
       (may_turn s q Receiver a b (origin a b) hosts ours x moments story (ranged a ours.0) (t.receiver_next s q) (t.receiver s q))) names in
       legal hosts (placed_event (event_in x) (events_of moments)) (law_events moments) (placed_run hosts (events_of (x ∷ moments)) run) a b ours second
 
@@ -306,26 +306,26 @@ module _ (hosts : Network) (origin : Host → Host → ℕ → ℕ) (a b : Host)
   pub receiver_hears : (s : Sockets) (q : IsPair s) (m : HostMessage) (our : AreOurs hosts m.flow.source m.flow.destination) (story : IsStory hosts (Crossed (crossing.In m) ∷ moments)) (run : IsRun hosts (events_of (Crossed (crossing.In m) ∷ moments))) → x ≡ Crossed (crossing.In m)
       → same_host a m.flow.destination ≡ true → same_host b m.flow.source ≡ true → AreSteps (steps a b (law_events (x ∷ moments))) → Hears s q Receiver (origin a b) hosts m moments our story run × IsFrom s q Receiver (origin a b) hosts m moments our story run
   receiver_hears s q m our story run is e f next =
-      let is_a : a ≡ m.flow.destination = same_host-true a m.flow.destination e in
-      let is_b : b ≡ m.flow.source = same_host-true b m.flow.source f in
+      let is_a : a ≡ m.flow.destination = same_host-true a _ e in
+      let is_b : b ≡ m.flow.source = same_host-true b _ f in
       let same : origin m.flow.destination m.flow.source ≡ origin a b = ap (λ (y : Host). origin y m.flow.source) (sym is_a) ∙ ap (λ (y : Host). origin a y) (sym is_b) in
       let place : IsFrom s q Receiver (origin a b) hosts m moments our story run = subst (λ (o : ℕ → ℕ). IsFrom s q Receiver o hosts m moments our story run) same (from_there m is) in
       let there : AreSteps (steps m.flow.destination m.flow.source (law_events (Crossed (crossing.In m) ∷ moments))) =
       subst (λ (y : Host). AreSteps (steps y m.flow.source (law_events (Crossed (crossing.In m) ∷ moments)))) is_a
       (subst (λ (y : Host). AreSteps (steps a y (law_events (Crossed (crossing.In m) ∷ moments)))) is_b (subst (λ (y : Moment). AreSteps (steps a b (law_events (y ∷ moments)))) is next)) in
-      (λ ready zero joint. (free_there m is our ready zero, receiver_now s q (origin a b) hosts m moments our story run (sort_of m.flow.link.0 m.text) place there ready zero), place)
+      (λ ready zero joint. (free_there m is our ready zero, receiver_now s q (origin a b) hosts m moments our story run (sort_of _ m.text) place there ready zero), place)
 
   pub sender_hears : (s : Sockets) (q : IsPair s) (m : HostMessage) (our : AreOurs hosts m.flow.source m.flow.destination) (story : IsStory hosts (Crossed (crossing.In m) ∷ moments)) (run : IsRun hosts (events_of (Crossed (crossing.In m) ∷ moments))) → x ≡ Crossed (crossing.In m)
       → same_host b m.flow.destination ≡ true → same_host a m.flow.source ≡ true → AreSteps (steps a b (law_events (x ∷ moments))) → Hears s q Sender (origin b a) hosts m moments our story run × IsFrom s q Sender (origin b a) hosts m moments our story run
   sender_hears s q m our story run is e f next =
-      let is_b : b ≡ m.flow.destination = same_host-true b m.flow.destination e in
-      let is_a : a ≡ m.flow.source = same_host-true a m.flow.source f in
+      let is_b : b ≡ m.flow.destination = same_host-true b _ e in
+      let is_a : a ≡ m.flow.source = same_host-true a _ f in
       let same : origin m.flow.destination m.flow.source ≡ origin b a = ap (λ (y : Host). origin y m.flow.source) (sym is_b) ∙ ap (λ (y : Host). origin b y) (sym is_a) in
       let place : IsFrom s q Sender (origin b a) hosts m moments our story run = subst (λ (o : ℕ → ℕ). IsFrom s q Sender o hosts m moments our story run) same (from_there m is) in
       let there : AreSteps (steps m.flow.source m.flow.destination (law_events (Crossed (crossing.In m) ∷ moments))) =
       subst (λ (y : Host). AreSteps (steps m.flow.source y (law_events (Crossed (crossing.In m) ∷ moments)))) is_b
       (subst (λ (y : Host). AreSteps (steps y b (law_events (Crossed (crossing.In m) ∷ moments)))) is_a (subst (λ (y : Moment). AreSteps (steps a b (law_events (y ∷ moments)))) is next)) in
-      (λ ready zero joint. (free_there m is our ready zero, sender_now s q (origin b a) hosts m moments our story run (sort_of m.flow.link.0 m.text) place there ready zero), place)
+      (λ ready zero joint. (free_there m is our ready zero, sender_now s q (origin b a) hosts m moments our story run (sort_of _ m.text) place there ready zero), place)
 
 pub tied_turn : (hosts : Network) (origin : Host → Host → ℕ → ℕ) (a b : Host) (x : Moment) (moments : List Moment) → AreOurs hosts a b → IsStory hosts (x ∷ moments) → IsRun hosts (events_of (x ∷ moments)) → AreServed hosts (x ∷ moments) → ((h : Host) → hosts.strange h ≡ false → IsRanged (program h moments))
     → IsOrigin origin x moments → NamesFreeAt a b x moments → TakesFreeAt hosts x moments → Tied origin a b moments → Tied origin a b (x ∷ moments)

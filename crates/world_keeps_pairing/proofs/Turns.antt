@@ -48,10 +48,10 @@ module _ (s : Sockets) (pair : IsPair s) (who : Who) where
       ≡ when_all (same_host h x) (same_host p y) (read_marks place (own_of who s) (foreign_of who s) link text)
   said_by_sort h p x y link place text (AnRst z orders is) =
       ap (λ (m : Message). at_texts s who (stay.said_by h p 0 (Out x y link (with_place place m)))) is ∙ none_if _ _
-      ∙ ap (when_all (same_host h x) (same_host p y)) (sym (signal_marks _ _ place link text _ orders refl (link == 0)))
+      ∙ ap (when_all (same_host h x) (same_host p y)) (sym (signal_marks _ _ place link text _ orders refl _))
   said_by_sort h p x y link place text (AnRrp z orders is) =
       ap (λ (m : Message). at_texts s who (stay.said_by h p 0 (Out x y link (with_place place m)))) is ∙ none_if _ _
-      ∙ ap (when_all (same_host h x) (same_host p y)) (sym (signal_marks _ _ place link text _ orders refl (link == 0)))
+      ∙ ap (when_all (same_host h x) (same_host p y)) (sym (signal_marks _ _ place link text _ orders refl _))
   said_by_sort h p x y link place text (AText is) =
       ap (λ (m : Message). at_texts s who (stay.said_by h p 0 (Out x y link (with_place place m)))) is
       ∙ ap (at_texts s who) (and_three _ _ (0 == link) _)

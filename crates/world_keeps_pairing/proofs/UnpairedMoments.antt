@@ -25,8 +25,8 @@ module _ (hosts : Network) (origin : Host → Host → ℕ → ℕ) (moments : L
       let zero : 0 ≤ place = omega arith in
       subst (λ (y : HostMessage). read_marks place own foreign y.flow.link.0 y.text ≡ []) (sym n.message)
       (unsaid own foreign place _ _ 0 u
-      (out_may (origin m.flow.source n.peer.host) own foreign _ place n.peer n.parcel _ _ 0 n.order n.next (ranged m.flow.source ours.0)
-      (story_agrees hosts moments m.flow.source n.peer.host them story.1) zero (old.bare m.flow.source n.peer.host them own foreign u).0))
+      (out_may (origin m.flow.source n.peer.host) own foreign _ place n.peer _ _ _ 0 n.order n.next (ranged m.flow.source ours.0)
+      (story_agrees hosts moments _ _ them story.1) zero (old.bare m.flow.source n.peer.host them own foreign u).0))
 
   silent_turn : (x : Moment) → IsStory hosts (x ∷ moments) → AllSilent hosts (crossings_of (x ∷ moments))
   silent_turn (Crossed (crossing.Out m)) story = ((λ ours. out_silent m ours story), old.silent)
@@ -42,7 +42,7 @@ module _ (hosts : Network) (origin : Host → Host → ℕ → ℕ) (moments : L
   bare_turn : (x : Moment) → IsStory hosts (x ∷ moments) → mail.IsRun hosts.all (crossings_of (x ∷ moments)) → AreServed hosts (x ∷ moments) → TakesFreeAt hosts x moments → (a b : Host) → AreOurs hosts a b → (own foreign : ℕ) → IsUnpaired own foreign → IsBare (origin a b) own foreign hosts a b (x ∷ moments)
   bare_turn (Crossed (crossing.Out m)) story run served free a b ours own foreign u =
       out_bare (origin a b) own foreign hosts a b ours m moments story (ranged a ours.0)
-      (λ from to. out_silent m (subst (λ (y : Host). hosts.strange y ≡ false) (same_host-true a m.flow.source from) ours.0, subst (λ (y : Host). hosts.strange y ≡ false) (same_host-true b m.flow.destination to) ours.1) story own foreign _ u) (old.bare a b ours own foreign u)
+      (λ from to. out_silent m (subst (λ (y : Host). hosts.strange y ≡ false) (same_host-true a _ from) ours.0, subst (λ (y : Host). hosts.strange y ≡ false) (same_host-true b _ to) ours.1) story own foreign _ u) (old.bare a b ours own foreign u)
   bare_turn (Crossed (crossing.In m)) story run served free a b ours own foreign u =
       in_bare (origin a b) own foreign hosts a b ours m moments story free (λ our. in_silent m our run foreign own (origin a b (places moments)) (unpaired_turned own foreign u)) (old.bare a b ours own foreign u)
   bare_turn (Crossed (crossing.Answer kind f)) story run served free a b ours own foreign u = answer_bare (origin a b) own foreign hosts a b ours kind f moments (old.bare a b ours own foreign u)
@@ -59,7 +59,7 @@ pub all_bare : (hosts : Network) (origin : Host → Host → ℕ → ℕ) (momen
 all_bare hosts origin [] from story run mails served = record { bare = λ a b ours own foreign u. (opening_has (origin a b) own foreign a b, tt); silent = tt }
 all_bare hosts origin (x ∷ moments) from story run mails served =
     let below : AreServed hosts moments = served_below hosts x moments served in
-    let old : AllBare hosts origin moments = all_bare hosts origin moments from.1 story.1 run.2 (mail_below hosts.all x moments mails) below in
+    let old : AllBare hosts origin moments = all_bare hosts origin moments from.1 story.1 run.2 (mail_below _ x moments mails) below in
     let t : AllTied hosts origin moments = all_tied hosts origin moments from.1 story.1 run.2 below in
     let ranged : (h : Host) → hosts.strange h ≡ false → IsRanged (program h moments) = programs_ranged hosts moments below in
     let free : TakesFreeAt hosts x moments = takes hosts origin x moments story run ranged from.0 t in

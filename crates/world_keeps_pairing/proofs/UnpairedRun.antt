@@ -74,7 +74,7 @@ module _ (origin : ℕ → ℕ) (own foreign : ℕ) (hosts : Network) where
           (if_has _ _ _
           (λ e. subst (λ (x : End). HasEnd origin own foreign (pair_with p t.peers) x) (kept_nothing (pair_with p t.peers))
           (answer_has origin own foreign _ kind f _ p nothing k.0 _ refl)) k.0)
-          (λ e. subst (λ (l : List Life). AreAmong l []) (sym (about_none origin h p own foreign f.destination _ _
+          (λ e. subst (λ (l : List Life). AreAmong l []) (sym (about_none origin h p own foreign _ _ _
           (answer_about _ kind f _) (answer_other origin own foreign _ kind f _ _))) k.1) k
 
       pub asked_bare : (g : Host) (r : Request) (moments : List Moment) → (same_host h g ≡ true → refusal (program h moments) r ≡ None) → IsBare moments → IsBare (Asked g r ∷ moments)
@@ -93,30 +93,30 @@ module _ (origin : ℕ → ℕ) (own foreign : ℕ) (hosts : Network) where
           subst (λ (y : HostMessage). same_host p y.flow.destination ≡ true → read_marks (places moments) own foreign y.flow.link.0 y.text ≡ []) n.message silent in
           subst (λ (x : End). Has origin own foreign p (offered (program h moments) (places moments)).0 x)
           (gone_nothing _ _ none)
-          (out_has origin own foreign _ _ n.peer n.parcel _ p nothing n.order n.next ranged (λ to. story_agrees hosts moments h n.peer.host (ours.0, subst (λ (y : Host). hosts.strange y ≡ false) (same_host-true p n.peer.host to) ours.1) story) k.0 _ refl)
+          (out_has origin own foreign _ _ n.peer _ _ p nothing n.order n.next ranged (λ to. story_agrees hosts moments h n.peer.host (ours.0, subst (λ (y : Host). hosts.strange y ≡ false) (same_host-true p _ to) ours.1) story) k.0 _ refl)
 
       out_tells_none : (m : HostMessage) (moments : List Moment) → IsStory hosts moments → (n : IsNext (program h moments) m) → IsRanged (program h moments) → (same_host p m.flow.destination ≡ true → read_marks (places moments) own foreign m.flow.link.0 m.text ≡ []) → IsBare moments
           → (c : Bool) → same_host p n.peer.host ≡ c → AreAmong (all_of_peer origin h p own foreign (offered (program h moments) (places moments)).1 (Lives_at moments)) []
       out_tells_none m moments story n ranged silent k true e =
-          let is : p ≡ n.peer.host = same_host-true p n.peer.host e in
+          let is : p ≡ n.peer.host = same_host-true p _ e in
           let none : same_host p n.peer.host ≡ true → read_marks (places moments) own foreign (link_for n.parcel) (text_for n.peer.pair n.parcel) ≡ [] =
           subst (λ (y : HostMessage). same_host p y.flow.destination ≡ true → read_marks (places moments) own foreign y.flow.link.0 y.text ≡ []) n.message silent in
           let mute : marks (places moments) own foreign (commands_of n.peer.pair n.parcel) ≡ [] =
-          goes_marks origin own foreign _ _ n.peer n.parcel _ n.order n.next ranged (story_agrees hosts moments h n.peer.host (ours.0, subst (λ (y : Host). hosts.strange y ≡ false) is ours.1) story) ∙ none e in
-          subst (λ (l : List Life). AreAmong l []) (sym (about_peer origin h p own foreign n.peer.host _ _ (offer_about _ _ n.peer n.parcel n.next) e))
+          goes_marks origin own foreign _ _ n.peer _ _ n.order n.next ranged (story_agrees hosts moments h _ (ours.0, subst (λ (y : Host). hosts.strange y ≡ false) is ours.1) story) ∙ none e in
+          subst (λ (l : List Life). AreAmong l []) (sym (about_peer origin h p own foreign _ _ _ (offer_about _ _ n.peer _ n.next) e))
           (subst (λ (ms : List Mark). AreAmong (with_openings origin own foreign (offered (program h moments) (places moments)).1 (Lives_at moments)) (all_lives_gone ms nothing [])) mute
-          (offer_tells origin own foreign _ _ n.peer n.parcel nothing _ [] n.order n.next (subst (λ (y : Host). Has origin own foreign y (program h moments) nothing) is k.0) k.1))
+          (offer_tells origin own foreign _ _ n.peer _ nothing _ [] n.order n.next (subst (λ (y : Host). Has origin own foreign y (program h moments) nothing) is k.0) k.1))
       out_tells_none m moments story n ranged silent k false e =
-          subst (λ (l : List Life). AreAmong l []) (sym (about_other origin h p own foreign n.peer.host _ _ (offer_about _ _ n.peer n.parcel n.next) e)) k.1
+          subst (λ (l : List Life). AreAmong l []) (sym (about_other origin h p own foreign _ _ _ (offer_about _ _ n.peer _ n.next) e)) k.1
 
       pub out_bare : (m : HostMessage) (moments : List Moment) → IsStory hosts (Crossed (crossing.Out m) ∷ moments) → IsRanged (program h moments) → (same_host h m.flow.source ≡ true → same_host p m.flow.destination ≡ true → read_marks (places moments) own foreign m.flow.link.0 m.text ≡ []) → IsBare moments → IsBare (Crossed (crossing.Out m) ∷ moments)
       out_bare m moments story ranged silent k =
           next (Crossed (crossing.Out m)) moments
           (if_has _ _ _ (λ e. out_has_none m moments story.1 (next_here e) ranged (silent e) k) k.0)
-          (λ e. subst (λ (y : Host). AreAmong (all_of_peer origin h p own foreign (offered (program y moments) (places moments)).1 (Lives_at moments)) []) (same_host-true h m.flow.source e)
+          (λ e. subst (λ (y : Host). AreAmong (all_of_peer origin h p own foreign (offered (program y moments) (places moments)).1 (Lives_at moments)) []) (same_host-true h _ e)
           (out_tells_none m moments story.1 (next_here e) ranged (silent e) k _ refl)) k where
             next_here : same_host h m.flow.source ≡ true → IsNext (program h moments) m
-            next_here e = subst (λ (y : Host). IsNext (program y moments) m) (sym (same_host-true h m.flow.source e)) (story.0 (subst (λ (y : Host). hosts.strange y ≡ false) (same_host-true h m.flow.source e) ours.0))
+            next_here e = subst (λ (y : Host). IsNext (program y moments) m) (sym (same_host-true h _ e)) (story.0 (subst (λ (y : Host). hosts.strange y ≡ false) (same_host-true h _ e) ours.0))
 
       -- ---- what comes in
 
@@ -125,7 +125,7 @@ module _ (origin : ℕ → ℕ) (own foreign : ℕ) (hosts : Network) where
           next (Crossed (crossing.In m)) moments
           (if_has _ _ _
           (λ e. in_leaves origin own foreign (program h moments) m (places moments) p nothing away k.0) k.0)
-          (λ e. subst (λ (l : List Life). AreAmong l []) (sym (about_other origin h p own foreign m.flow.source _ _
+          (λ e. subst (λ (l : List Life). AreAmong l []) (sym (about_other origin h p own foreign _ _ _
           (message_about _ m _) away)) k.1) k
 
       in_elsewhere : (m : HostMessage) (moments : List Moment) → same_host h m.flow.destination ≡ false → IsBare moments → IsBare (Crossed (crossing.In m) ∷ moments)
@@ -140,7 +140,7 @@ module _ (origin : ℕ → ℕ) (own foreign : ℕ) (hosts : Network) where
     old = Lives_at m.flow.destination m.flow.source moments
 
     own_is : same_host (program m.flow.destination moments).own m.flow.destination ≡ true
-    own_is = ap (λ (y : Host). same_host y m.flow.destination) (program_own m.flow.destination moments) ∙ same_host-refl m.flow.destination
+    own_is = ap (λ (y : Host). same_host y m.flow.destination) (program_own _ moments) ∙ same_host-refl m.flow.destination
 
     joint : message_on m.flow.link.0 m.text ≡ Other m.text → (m.flow.link.0 == 0) ≡ true → AreJoint (orders_of m.text)
     joint is zero = plain_joint _ (subst (λ (n : Message). IsApart m.flow.link.0 m.text n) is (story.0 ours) zero)
@@ -176,7 +176,7 @@ module _ (origin : ℕ → ℕ) (own foreign : ℕ) (hosts : Network) where
       by false idle = as_told (idle_other origin own foreign _ m _ own_is zero idle (joint is zero) _)
 
     told_now : (z : Bool) → (m.flow.link.0 == 0) ≡ z → Told
-    told_now true zero = control_told zero (sort_of m.flow.link.0 m.text)
+    told_now true zero = control_told zero (sort_of _ m.text)
     told_now false away = data_told origin own foreign _ m _ _ [] own_is away k.1
 
     pub in_here : IsBare m.flow.destination m.flow.source (Crossed (crossing.In m) ∷ moments)
@@ -185,7 +185,7 @@ module _ (origin : ℕ → ℕ) (own foreign : ℕ) (hosts : Network) where
         (if_has m.flow.destination m.flow.source _ _ _
         (λ e. end_now (m.flow.link.0 == 0) refl) k.0)
         (λ e. subst (λ (l : List Life). AreAmong l [])
-        (sym (about_peer origin m.flow.destination m.flow.source own foreign m.flow.source _ _
+        (sym (about_peer origin m.flow.destination m.flow.source own foreign _ _ _
         (message_about _ m _) (same_host-refl m.flow.source)))
         (told_now _ refl)) k
 
@@ -194,8 +194,8 @@ module _ (origin : ℕ → ℕ) (own foreign : ℕ) (hosts : Network) where
   in_bare h p ours m moments story free silent k = by (same_host h m.flow.destination) (same_host p m.flow.source) refl refl where
     by : (b c : Bool) → same_host h m.flow.destination ≡ b → same_host p m.flow.source ≡ c → IsBare h p (Crossed (crossing.In m) ∷ moments)
     by true true e f =
-        let is_h : h ≡ m.flow.destination = same_host-true h m.flow.destination e in
-        let is_p : p ≡ m.flow.source = same_host-true p m.flow.source f in
+        let is_h : h ≡ m.flow.destination = same_host-true h _ e in
+        let is_p : p ≡ m.flow.source = same_host-true p _ f in
         let our : AreOurs hosts m.flow.source m.flow.destination = (subst (λ (y : Host). hosts.strange y ≡ false) is_p ours.1, subst (λ (y : Host). hosts.strange y ≡ false) is_h ours.0) in
         let there : IsBare m.flow.destination m.flow.source moments = subst (λ (y : Host). IsBare m.flow.destination y moments) is_p (subst (λ (y : Host). IsBare y p moments) is_h k) in
         subst (λ (y : Host). IsBare y p (Crossed (crossing.In m) ∷ moments)) (sym is_h)

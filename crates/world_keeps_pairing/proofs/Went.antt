@@ -1,5 +1,5 @@
 -- Where requests went out: a place is that of one message, of one host to one other.
-use Rattle.world_keeps_pairing.proofs.Common.{◌≡◌, ◌⊎◌, inl, inr, ℕ, zero, suc, ◌-◌, ◌<◌, Bool, true, false, if◌then◌else◌, List, [], ◌∷◌, length, drop, Option, Some, None, refl, ap, sym, subst, ◌∙◌, arith, Host, same_host, same_flow, Flow, Crossing, HostMessage, same_flow-true, same_host-true, End, nothing, fits, Mark, Ask, Close, placed_event, Sockets, Who, Event, place, event_of, last_out, Moment, Crossed, Asked, event_in, events_of, crossings_of, law_events, place_or, keeps}
+use Rattle.world_keeps_pairing.proofs.Common.{◌≡◌, ◌⊎◌, inl, inr, ℕ, zero, suc, ◌-◌, ◌<◌, Bool, true, false, if◌then◌else◌, List, [], ◌∷◌, length, drop, Option, Some, None, refl, ap, sym, subst, ◌∙◌, arith, Host, same_host, same_flow, Flow, Crossing, HostMessage, same_flow-true, same_host-true, End, nothing, fits, Mark, Ask, Close, placed_event, Sockets, Who, Event, place, event_of, last_out, Moment, Crossed, Asked, events_of, crossings_of, law_events, place_or, keeps}
 use Rattle.pairing_law.specs.Sides.{Side, hears, says, Life, lives_opened}
 use Rattle.net_sim.proofs.lemmas.{by_request, place_same}
 use Rattle.interface.specs.declared.crossing.Crossing.TheVariants as crossing
@@ -107,13 +107,13 @@ module _ (h p : Host) where
 
   says_went : (log : List Crossing) (ms : List Mark) (x : Side) → MarksWent log ms → SideWent log x → SideWent log (all_says ms x)
   says_went log [] x m w = w
-  says_went log (Ask n ∷ ms) x m w = says_went log ms (says (Ask n) x) m.1 (m.0, opened_went log (Some n) x.end.partner x.lives m.0 w.1)
-  says_went log (Close ∷ ms) x m w = says_went log ms (says Close x) m (end_if log x.end.taken x.end.asked _ refl w.0, w.1)
+  says_went log (Ask n ∷ ms) x m w = says_went log ms (says (Ask n) x) m.1 (m.0, opened_went log (Some n) x.end.partner _ m.0 w.1)
+  says_went log (Close ∷ ms) x m w = says_went log ms (says Close x) m (end_if log _ _ _ refl w.0, w.1)
 
   hears_one : (log : List Crossing) (m : Mark) (x : Side) → SideWent log x → SideWent log (hears m x)
   hears_one log (Ask n) x w = by (fits (Ask n) x.end) where
     by : (b : Bool) → AskedWent log (if b then record x.end { partner = Some n } else x.end).asked × AllWent log (if b then lives_opened x.end.asked (Some n) x.lives else x.lives)
-    by true = (w.0, opened_went log x.end.asked (Some n) x.lives w.0 w.1)
+    by true = (w.0, opened_went log _ _ _ w.0 w.1)
     by false = w
   hears_one log Close x w = by (fits Close x.end) x.end.gone where
     by : (b c : Bool) → AskedWent log (if b then (if c then nothing else record x.end { taken = true }) else x.end).asked × AllWent log (if b then x.lives else x.lives)
@@ -164,18 +164,18 @@ module _ (h p : Host) where
     out_marks m moments false c e f = tt
 
     side_more : (c : Crossing) (log : List Crossing) (x : Side) → SideWent log x → SideWent (c ∷ log) x
-    side_more c log x w = (asked_more c log x.end.asked w.0, all_went_more c log x.lives w.1)
+    side_more c log x w = (asked_more c log _ w.0, all_went_more c log _ w.1)
 
     pub side_went : (moments : List Moment) → SideWent (crossings_of moments) (Side_of s is_pair who h p origin moments)
     side_went [] = (tt, tt)
     side_went (Crossed (crossing.Out m) ∷ moments) =
         event_went (crossings_of (Crossed (crossing.Out m) ∷ moments)) (placed_event (event_of (crossing.Out m)) (events_of moments)) moments
         (subst (λ (ms : List Mark). MarksWent (crossings_of (Crossed (crossing.Out m) ∷ moments)) ms)
-        (sym (said_is s is_pair who h p m.flow.source m.flow.destination m.flow.link.0 (place (events_of moments)) m.text))
-        (out_marks m moments (same_host h m.flow.source) (same_host p m.flow.destination) refl refl))
+        (sym (said_is s is_pair who h p _ _ _ _ m.text))
+        (out_marks m moments _ _ refl refl))
         (side_more (crossing.Out m) (crossings_of moments) (Side_of s is_pair who h p origin moments) (side_went moments))
     side_went (Crossed c ∷ moments) =
         event_went (crossings_of (Crossed c ∷ moments)) (placed_event (event_of c) (events_of moments)) moments tt (side_more c (crossings_of moments) (Side_of s is_pair who h p origin moments) (side_went moments))
     side_went (Asked g r ∷ moments) =
-        event_went (crossings_of (Asked g r ∷ moments)) (placed_event (event_in (Asked g r)) (events_of moments)) moments
+        event_went (crossings_of (Asked g r ∷ moments)) _ moments
         (by_request (λ e. MarksWent (crossings_of moments) (at_texts s who (stay.said_by h p 0 (placed_event e (events_of moments))))) g r (λ peer. tt) tt) (side_went moments)

@@ -6,6 +6,7 @@ pub mod Agree
 pub mod Answered
 pub mod Arrives
 pub mod Began
+pub mod Between
 pub mod Books
 pub mod Clauses
 pub mod Calm

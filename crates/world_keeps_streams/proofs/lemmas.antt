@@ -4,6 +4,7 @@ pub use Rattle.world_keeps_streams.proofs.Books.All.{world_sent, world_source}
 pub use Rattle.world_keeps_streams.proofs.Books.Answered.{world_answered}
 pub use Rattle.world_keeps_streams.proofs.Ends.Arrived.{world_arrived}
 pub use Rattle.world_keeps_streams.proofs.Books.Arrives.{world_arrives}
+pub use Rattle.world_keeps_streams.proofs.Books.Between.{world_between}
 pub use Rattle.world_keeps_streams.proofs.Books.Calm.{done, silent_next, world_calms}
 pub use Rattle.world_keeps_streams.proofs.Books.Comes.{world_comes}
 pub use Rattle.world_keeps_streams.proofs.Books.Came.{world_came}

@@ -21,7 +21,7 @@ use Rattle.host_keeps_streams.specs.Names.{IsSending}
 use Rattle.promise.specs.Arrived as promised
 use Rattle.promise.specs.Arrived.{ArrivedBook}
 use Rattle.promise.specs.Fates.{ClosesWhole, IsBeside}
-use Rattle.promise.specs.Formed.{FormedBook, link_of, texts_on}
+use Rattle.promise.specs.Formed.{CrossedAt, FormedBook, link_of, texts_on}
 use Rattle.promise.specs.Ends.{AreContacts, AreLeft, Going, stage}
 use Rattle.promise.specs.Safe.{IsGranted, Match, Source, receives}
 use Rattle.promise.specs.declared.life.Fate.TheVariants as fate
@@ -38,6 +38,7 @@ use Rattle.net_sim.specs.World.{WorldState}
 use Rattle.world_keeps_lives.specs.Firsts.{FirstBook}
 use Rattle.world_keeps_streams.specs.Answered.{AllAnswered, HasArrived}
 use Rattle.world_keeps_streams.specs.Arrivals.{AllArrive, AllCome, Arrives, ComesBetween, ComesFor}
+use Rattle.world_keeps_streams.specs.Between.{EachIsBetween, IsBetween}
 use Rattle.world_keeps_streams.specs.Calls.{numbered_by_peer, own_calls}
 use Rattle.world_keeps_streams.specs.Came.{AllCame, CameAll, HadTakenCls}
 use Rattle.world_keeps_streams.specs.Closes.{AllClose, AllHanded, EachHanded, TookAll, WasClosedByPartner}
@@ -119,6 +120,10 @@ pub record Lives : Type 0 where
   pub was_sent :
       (hosts : List Host) (moments : List Moment) → HaveAddresses hosts → mail.IsRun hosts (crossings_of moments) →
       IsTimeline hosts moments → EachWasSent (crossings_of moments) (kept_in moments).book.lives
+  -- each message of data that went out is one of a sending life, which a receiving one matches
+  pub between :
+      (hosts : List Host) (moments : List Moment) → HaveAddresses hosts → mail.IsRun hosts (crossings_of moments) →
+      IsTimeline hosts moments → EachIsBetween (crossings_of moments) (kept_in moments).book.lives
   -- a receiving life whose end its partner has closed, and no user of its host, took all that its partner sent; it
   -- stays so whatever becomes of both lives
   pub closes :
@@ -239,6 +244,11 @@ pub record Among : Type 0 where
   pub was_sent :
       (hosts : Network) (moments : List Moment) → MayBe hosts moments →
       EachWasSent (crossings_of moments) (lives_among hosts.strange (kept_in moments).book.lives)
+  pub between :
+      (hosts : Network) (moments : List Moment) → MayBe hosts moments → (place : ℕ) (m : HostMessage) →
+      CrossedAt place (crossing.Out m) (crossings_of moments) → (m.flow.link.0 == 0) ≡ false →
+      AreOurs hosts m.flow.source m.flow.destination →
+      IsBetween (crossings_of moments) (lives_among hosts.strange (kept_in moments).book.lives) place m
   pub closes :
       (hosts : Network) (moments : List Moment) → MayBe hosts moments → (receiver : Life) →
       AreOurs hosts receiver.host receiver.peer → (closed : WasClosedByPartner moments receiver) →
@@ -332,6 +342,9 @@ pub record Worlds {C : Type 0} (seen : C → Seen) : Type 0 where
   pub was_sent :
       (hosts : List Host) (w : WorldState C) → IsLawful seen hosts w →
       EachWasSent w.kept.book.crossings w.kept.book.lives
+  pub between :
+      (hosts : List Host) (w : WorldState C) → IsLawful seen hosts w →
+      EachIsBetween w.kept.book.crossings w.kept.book.lives
   pub closes : (hosts : List Host) (w : WorldState C) → (lawful : IsLawful seen hosts w) → AllClose lawful.whole.moments
   pub came : (hosts : List Host) (w : WorldState C) → (lawful : IsLawful seen hosts w) → AllCame lawful.whole.moments
   pub handed :

@@ -8,5 +8,6 @@ pub mod calm;
 pub mod law;
 pub mod worked;
 pub mod worked_arrived;
+pub mod worked_between;
 pub mod worked_ends;
 pub mod worked_sent;

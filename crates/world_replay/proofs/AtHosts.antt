@@ -1,18 +1,21 @@
 -- An event at one host leaves all others as they are, and one of a calm by which nothing crosses leaves all hosts so.
-use Rattle.world_replay.proofs.Common.{Notice, ServiceDeskState, ServicesState, opening_desk, line_bits, Calls, crossing_of, Host, same_host, Crossing, all_told, asked, crossed, shown, Event, Ask, Net, Offer, Out, Quiet, Server, Take, Typed, User, WorldFault, Seat, ServiceSeat, accepted, NcpState, refusal, served, served_notices, next_out, offered, NcpFault, Request, IsOfCalm}
+use Rattle.world_replay.proofs.Common.{Notice, ServiceDeskState, ServicesState, opening_desk, line_bits, Calls, crossing_of, Host, same_host, Crossing, all_told, asked, crossed, shown, Event, Ask, Net, Offer, Out, Quiet, Server, Take, Typed, User, WorldFault, Carrier, NoProgram, Seat, ServiceSeat, accepted, NcpState, refusal, served, served_notices, next_out, offered, NcpFault, Request, IsOfCalm}
 use Rattle.std.proofs.Common.{◌≡◌, inl, inr, ℕ, zero, suc, Bool, false, List, [], ◌∷◌, Option, Some, None, Result, Ok, Err, length, refl, ap, sym, subst, ◌∙◌, arith, slice_get}
-use Rattle.net_sim.specs.World.{AskGives, AtSeat, Does, DoesOrHalts, OfferEnds, OfferGives, Passes, QuietEnds, StepGives, TakeEnds, TakeGives, TypeGives, WorldState, noticed, seat_of, served_at, services_of, stops, with_carrier, with_server, with_user, world_moved, EventGives, seated, serviced, tended, turn_of, with_program, with_services, world_heard}
+use Rattle.net_sim.specs.Steps.{AmongGives, FetchEnds, StepGives, asked_at, is_strange, strange_in}
+use Rattle.net_sim.specs.World.{AskGives, AtSeat, Does, DoesOrHalts, OfferEnds, OfferGives, Passes, QuietEnds, Refuses, TurnGives, TakeEnds, TakeGives, TypeGives, WorldState, noticed, seat_of, served_at, services_of, stops, with_carrier, with_server, with_user, world_moved, EventGives, seated, serviced, changed, tended, turn_of, with_program, with_services, world_heard}
 use Rattle.std.proofs.lemmas.List.{length-map}
 use Rattle.host_services.specs.Turns as services
 use Rattle.interface.specs.declared.CarrierFault.{CarrierFault}
+use Rattle.interface.specs.declared.CarrierFault.TheVariants as fault
 use Rattle.interface.specs.declared.HostMessage.{HostMessage}
 use Rattle.interface.specs.declared.Inbound.{Inbound}
 use Rattle.interface.specs.declared.crossing.Crossing.TheVariants as crossing
+use Rattle.interface.specs.declared.crossing.Inbound.TheVariants as inbound
 use Rattle.sockets.specs.declared.request.Request.TheVariants as request
 use Rattle.world_replay.specs.Apart.{IsAt, OthersStay, SameHosts}
-use Rattle.world_replay.proofs.Driven.{moved_log, step_runs}
+use Rattle.world_replay.proofs.Driven.{moved_log, turn_runs}
 use Rattle.world_replay.proofs.Grown.{at_seat}
-use Rattle.world_replay.proofs.Steady.{halts_stop}
+use Rattle.world_replay.proofs.Steady.{halts_stop, on_either}
 
 abbrev Answer : Type 0
 Answer = Result (Unit {0}) WorldFault
@@ -123,8 +126,35 @@ module _ {C : Type 0} (calls : Calls C) where
       (host_others (λ s. TypeGives h line s (services_of h old.services).typing old r new) h old r new (λ s k. type_others h line s (services_of h old.services).typing old r new on k) t)
 
   -- an event at a host leaves all others as they were
+  pub turn_others_stay : (h : Host) (e : Event) (old : WorldState C) (r : Answer) (new : WorldState C) → IsAt h e → stops r ≡ false → TurnGives (shown calls) old e r new → OthersStay h old new
+  turn_others_stay h e old r new at on step = event_others h e old r new at on (turn_runs calls e old r new on step)
+
+  -- so does what a stranger takes
+  fetched_same : (h : Host) (c : C) (i : Inbound) (old : WorldState C) → OthersStay h old (changed c (crossing_of i ∷ []) old)
+  fetched_same h c (inbound.Message m) old = others_same h old (changed c (crossing.In m ∷ []) old) refl refl
+  fetched_same h c (inbound.Answer kind f) old = others_same h old (changed c (crossing.Answer kind f ∷ []) old) refl refl
+
+  fetch_others : (h : Host) (answer : Result (Option Inbound) CarrierFault) (c : C) (old : WorldState C) (r : Answer) (new : WorldState C) → stops r ≡ false → FetchEnds answer c old r new → OthersStay h old new
+  fetch_others h (Ok None) c old r new on ends =
+      others_done h old (with_carrier c old) r new (others_same h old (with_carrier c old) refl refl) ends
+  fetch_others h (Ok (Some i)) c old r new on ends = elim ends [
+    | inl d ↦ others_done h old (changed c (crossing_of i ∷ []) old) r new (fetched_same h c i old) d
+    | inr x ↦ absurd (halts_stop c old r new x on)
+  ]
+  fetch_others h (Err f) c old r new on ends = others_passed h f c old r new ends
+
+  refused_others : (h : Host) (f : WorldFault) (old : WorldState C) (r : Answer) (new : WorldState C) → Refuses f old r new → OthersStay h old new
+  refused_others h f old r new is = others_unchanged h old new is.1
+
+  among_others : (h : Host) (e : Event) (old : WorldState C) (r : Answer) (new : WorldState C) → IsAt h e → stops r ≡ false → AmongGives (shown calls) old e r new → OthersStay h old new
+  among_others h (Take g) old r new at on t =
+      on_either (strange_in old g) (λ s f. fetch_others h f.0 f.1 old r new on f.3) (λ s f. event_others h (Take g) old r new at on f) t
+  among_others h (Out m) old r new at on t = absurd at
+  among_others h e old r new at on t =
+      on_either (is_strange (strange_in old) (asked_at e)) (λ s no. refused_others h NoProgram old r new no) (λ s f. event_others h e old r new at on f) t
+
   pub others_stay : (h : Host) (e : Event) (old : WorldState C) (r : Answer) (new : WorldState C) → IsAt h e → stops r ≡ false → StepGives (shown calls) old e r new → OthersStay h old new
-  others_stay h e old r new at on step = event_others h e old r new at on (step_runs calls e old r new on step)
+  others_stay h e old r new at on step = on_either old.stopped (λ s no. refused_others h (Carrier fault.Stopped) old r new no) (λ s f. among_others h e old r new at on f) step
 
   -- ---- an event of a calm by which nothing crosses
 
@@ -183,5 +213,5 @@ module _ {C : Type 0} (calls : Calls C) where
   event_silent (Typed h line) old r new is on t = absurd is
   event_silent (Out m) old r new is on t = absurd is
 
-  pub silent : (e : Event) (old : WorldState C) (r : Answer) (new : WorldState C) → IsOfCalm e → stops r ≡ false → StepGives (shown calls) old e r new → Silent old new
-  silent e old r new is on step = event_silent e old r new is on (step_runs calls e old r new on step)
+  pub silent : (e : Event) (old : WorldState C) (r : Answer) (new : WorldState C) → IsOfCalm e → stops r ≡ false → TurnGives (shown calls) old e r new → Silent old new
+  silent e old r new is on step = event_silent e old r new is on (turn_runs calls e old r new on step)

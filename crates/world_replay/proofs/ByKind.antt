@@ -1,6 +1,6 @@
 -- The replay of events over any kind of world of which what a replay needs is known.
 use Rattle.world_replay.proofs.Common.{Appends, Appends-nil, Appends-trans, Detail, Gains, gained, WorldFault, stops, Calm, Happen, WorldEvent}
-use Rattle.std.proofs.Common.{◌≡◌, ℕ, ◌+◌, ◌-◌, ◌<◌, ◌≤◌, zero, suc, Bool, true, false, List, [], ◌∷◌, ◌++◌, length, Option, None, Some, Result, Ok, Err, refl, ap, ap₂, sym, subst, ◌∙◌, arith, OnOk}
+use Rattle.std.proofs.Common.{◌≡◌, ℕ, ◌+◌, ◌-◌, ◌<◌, ◌≤◌, zero, suc, Bool, true, false, List, [], ◌∷◌, ◌++◌, length, Option, None, Result, Ok, Err, refl, ap, ap₂, sym, subst, ◌∙◌, arith, OnOk}
 use Rattle.std.proofs.lemmas.List.{append-nil, append_assoc}
 use Rattle.world_replay.specs.Output.{Writes, output, shown_refusal, Shown, shown_text}
 use Rattle.world_replay.specs.Steps.{EventEnds, IsReplayable, OneEnds}
@@ -15,10 +15,6 @@ use Rattle.world_replay.proofs.Grown.{gains_none}
 use Rattle.world_replay.proofs.Replays.{News, news_is}
 
 -- ---- what is handed on after the last of several events
-
-pub whether_ok : {T E Q : Type 0} (r : Result T E) → Q → OnOk r Q
-whether_ok (Ok x) q = q
-whether_ok (Err e) q = tt
 
 -- one event more
 pub one_seen : {S W : Type 0} (kind : Kind S) (detail : Detail) (contents : W → Option (List ℕ)) (flushed : W → Bool)
@@ -49,13 +45,6 @@ module _ {S : Type 0} (kind : Kind S) (is : IsReplayable kind) where
   begins : (e : WorldEvent) → Begins e e
   begins (Happen e) = refl
   begins (Calm n) = (n, refl, omega arith)
-
-  pub one_is_event : (detail : Detail) (old : S) (e : WorldEvent) (r : Result (Unit {0}) ReplayFault) (new : S)
-      (a b : Option (List ℕ))
-      → OneEnds kind detail old e r new a b → EventEnds kind detail old e r new a b
-  one_is_event detail old e (Ok done) new a b h = h
-  one_is_event detail old e (Err fault.OutOfMemory) new a b h = h
-  one_is_event detail old e (Err fault.CannotWrite) new a b h = ([], record { processed = e; begins = begins e; outcome = h.0; gives = h.1; unknown = refl })
 
   -- an event ends as its printing ends
   pub event_ends : {W : Type 0} (contents : W → Option (List ℕ)) (detail : Detail) (old : S) (e : WorldEvent)
@@ -223,12 +212,3 @@ module _ {S : Type 0} (kind : Kind S) (is : IsReplayable kind) where
       → EventEnds kind detail old (Calm total) (Ok tt) now a b
   all_passed detail zero total old now a b h some same = absurd (omega (arith, some))
   all_passed detail (suc n) total old now a b h some same = subst (λ (m : ℕ). Writes detail (HappensBy kind old (Calm m) now) a b) same h
-
-  -- an event that is a calm
-  pub calm_event : (detail : Detail) (old : S) (e : WorldEvent) (rounds : ℕ) (r : Result (Unit {0}) ReplayFault) (new : S)
-      (a b : Option (List ℕ))
-      → rounds_in e ≡ Some rounds → EventEnds kind detail old (Calm rounds) r new a b
-      → EventEnds kind detail old e r new a b
-  calm_event detail old (Happen e) rounds r new a b has h = absurd (let no : None ≡ Some rounds = has in cc)
-  calm_event detail old (Calm n) rounds r new a b has h =
-      subst (λ (m : ℕ). EventEnds kind detail old (Calm m) r new a b) (let alike : Some n ≡ Some rounds = has in cc) h

@@ -1,11 +1,11 @@
 -- A calm is its events, one after another.
-use Rattle.world_replay.proofs.Common.{false≢true, MatchBool, All, Calls, Host, Calms, Does, Repeats, StepGives, TurnsOf, WorldState, stops, up_in, Event, Offer, Quiet, Take, WorldFault, InTurn, gained}
+use Rattle.world_replay.proofs.Common.{false≢true, MatchBool, All, Calls, Host, Calms, Does, Repeats, TurnGives, TurnsOf, WorldState, stops, up_in, Event, Offer, Quiet, Take, WorldFault, InTurn, gained}
 use Rattle.std.proofs.Common.{◌≡◌, ℕ, zero, suc, Bool, true, false, List, [], ◌∷◌, ◌++◌, Result, Ok, refl, ap, sym, subst, ◌∙◌, length, nat_lt}
 use Rattle.std.proofs.lemmas.List.Elements.{All-cons, All-nil}
 use Rattle.world_replay.specs.Replay.{HappensInCalm, IsOfCalm, Happens, quiet_rounds}
 use Rattle.world_replay.specs.Output.{Shown}
 use Rattle.world_replay.proofs.CalmRounds.{Gained, calm_gained, more_gained, none_gained, runs_at}
-use Rattle.world_replay.proofs.Grown.{Grew, begins, step_grows}
+use Rattle.world_replay.proofs.Grown.{Grew, begins, turn_grows}
 use Rattle.world_replay.proofs.Replays.{gains_once, same_news}
 use Rattle.world_replay.proofs.Rounds.{is_false, is_true}
 use Rattle.world_script.specs.declared.event.WorldEvent.TheVariants as event
@@ -31,9 +31,9 @@ moved {C} calls rounds old mid new same course = subst (λ (w : WorldState C). C
 
 -- one event before the others, which makes this many rounds of those that they make
 one_before : {C : Type 0} (calls : Calls C) (e : Event) (rounds more : ℕ) (old mid new : WorldState C) (answer : Answer) → IsOfCalm e → begins e ≡ false → ((es : List Event) → quiet_rounds es ≡ rounds → quiet_rounds (e ∷ es) ≡ more)
-    → StepGives calls old e answer mid → stops answer ≡ false → Course calls rounds mid new → Course calls more old new
+    → TurnGives calls old e answer mid → stops answer ≡ false → Course calls rounds mid new → Course calls more old new
 one_before calls e rounds more old mid new answer alike plain counts step on later =
-    let grew : Grew old.kept mid.kept = step_grows calls e old answer mid plain step in
+    let grew : Grew old.kept mid.kept = turn_grows calls e old answer mid plain step in
     let first : List Shown = gained grew.gains in
     record {
       events = e ∷ later.events;

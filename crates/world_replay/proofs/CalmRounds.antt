@@ -1,5 +1,5 @@
 -- A calm is its rounds, one after another.
-use Rattle.world_replay.proofs.Common.{◌≡◌, ℕ, zero, suc, Bool, true, false, List, [], ◌++◌, Result, Ok, refl, ap, ap₂, sym, subst, ◌∙◌, append-nil, false≢true, MatchBool, Calms, CalmGives, Refuses, StepGives, TurnsOf, WorldState, stops, up_in, Quiet, WorldFault, Carrier, Calls, gained}
+use Rattle.world_replay.proofs.Common.{◌≡◌, ℕ, zero, suc, Bool, true, false, List, [], ◌++◌, Result, Ok, refl, ap, ap₂, sym, subst, ◌∙◌, append-nil, false≢true, MatchBool, Calms, CalmGives, Refuses, TurnGives, TurnsOf, WorldState, stops, up_in, Quiet, WorldFault, Carrier, Calls, gained}
 use Rattle.world_replay.specs.Replay.{Replays, Happens, rounds_of}
 use Rattle.interface.specs.declared.carrier.CarrierFault.TheVariants as carrier
 use Rattle.world_replay.specs.Output.{Shown, shown_refusal}
@@ -59,7 +59,7 @@ rounds_calm calls rounds old new lines on h =
 
 -- in a world that has stopped no round goes well
 pub steps_run : {C : Type 0} (calls : Calls C) (old quiet : WorldState C) (answer : Answer)
-    → StepGives calls old Quiet answer quiet → stops answer ≡ false → (b : Bool) → old.stopped ≡ b
+    → TurnGives calls old Quiet answer quiet → stops answer ≡ false → (b : Bool) → old.stopped ≡ b
     → old.stopped ≡ false
 steps_run calls old quiet answer h on false is = is
 steps_run calls old quiet answer h on true is =

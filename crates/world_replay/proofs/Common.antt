@@ -10,8 +10,8 @@ pub use Rattle.net_sim.proofs.lemmas.{calm_keeps}
 pub use Rattle.net_sim.specs.Book.{Kept, all_asked, all_crossed, all_told, asked, book_told, crossed}
 pub use Rattle.net_sim.specs.Carriers.{shown}
 pub use Rattle.net_sim.specs.Worked.{any_carrier, message}
-pub use Rattle.net_sim.specs.WorkedMixed.{beside_third}
-pub use Rattle.net_sim.specs.World.{CalmGives, Calms, Does, QuietEnds, Refuses, Repeats, StepGives, TurnsOf, WorldState, stops, up_in, with_carrier}
+pub use Rattle.net_sim.specs.WorkedStrangers.{beside_third}
+pub use Rattle.net_sim.specs.World.{CalmGives, Calms, Does, QuietEnds, Refuses, Repeats, TurnGives, TurnsOf, WorldState, stops, up_in, with_carrier}
 pub use Rattle.net_sim.specs.declared.event.Event.{Event}
 pub use Rattle.net_sim.specs.declared.event.Event.TheVariants.{Ask, Net, Offer, Out, Quiet, Server, Take, Typed, User}
 pub use Rattle.net_sim.specs.declared.event.WorldFault.{WorldFault}
@@ -19,7 +19,7 @@ pub use Rattle.net_sim.specs.declared.event.WorldFault.TheVariants.{Carrier, Has
 pub use Rattle.net_sim.specs.declared.seat.Seat.{Seat}
 pub use Rattle.net_sim.specs.declared.seat.ServiceSeat.{ServiceSeat}
 pub use Rattle.promise.specs.declared.book.Told.{Told}
-pub use Rattle.replay.proofs.lemmas.{ends_front, in_turn_once}
+pub use Rattle.replay.proofs.lemmas.{in_turn_once}
 pub use Rattle.replay.specs.InTurn.{Happening, HappensOnce, InTurn, ShowsFront, text_of}
 pub use Rattle.replay.specs.Output.{crossing_line}
 pub use Rattle.replay.specs.declared.print.Detail.{Detail}
@@ -39,7 +39,6 @@ pub use Rattle.std.specs.Bool.{MatchBool}
 pub use Rattle.std.specs.Io.KnownBytes.{Appends}
 pub use Rattle.std.specs.List.{All}
 pub use Rattle.world_replay.specs.Gains.{Gains, gained}
-pub use Rattle.world_replay.specs.Kinds.{HappensBy, mixed_kind}
 pub use Rattle.world_replay.specs.Output.{shown_notices}
 pub use Rattle.world_replay.specs.Replay.{IsOfCalm}
 pub use Rattle.world_replay.specs.Seen.{RoundPrints}

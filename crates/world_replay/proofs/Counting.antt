@@ -1,5 +1,5 @@
 -- Worlds over a carrier that counts its calls.
-use Rattle.world_replay.proofs.Common.{MatchBool, Calms, QuietEnds, StepGives, TurnsOf, WorldState, stops, up_in, with_carrier, Kept, Quiet, Take, WorldFault, Carrier, first, Gains, gained, WorldEvent, Calm, Happen}
+use Rattle.world_replay.proofs.Common.{MatchBool, Calms, QuietEnds, TurnGives, TurnsOf, WorldState, stops, up_in, with_carrier, Kept, Quiet, Take, WorldFault, Carrier, first, Gains, gained, WorldEvent, Calm, Happen}
 use Rattle.std.proofs.Common.{◌≡◌, ℕ, ◌+◌, zero, suc, Bool, true, false, List, [], ◌∷◌, length, Result, Ok, Err, refl, ap, sym, subst, ◌∙◌, arith, add-zero}
 use Rattle.world_replay.specs.Replay.{HappensInCalm, MayDo, EventGives}
 use Rattle.world_replay.specs.Rounds.{Again, Repeated, crosses}
@@ -19,10 +19,10 @@ quiet_ends : (n c : ℕ) (answer : Result (Unit {0}) CarrierFault) (r : Result (
 quiet_ends n c (Ok done) r new ok counted ends = record { succeeds = ends.0; counted = ends.1 ∙ ap (λ k. with_carrier k (after n)) counted }
 quiet_ends n c (Err f) r new ok counted ends = absurd (cc)
 
-quiet_counts : (n : ℕ) (r : Result (Unit {0}) WorldFault) (new : WorldState ℕ) → StepGives counting (after n) Quiet r new → Counts n r new
+quiet_counts : (n : ℕ) (r : Result (Unit {0}) WorldFault) (new : WorldState ℕ) → TurnGives counting (after n) Quiet r new → Counts n r new
 quiet_counts n r new (answer, c, called, ends) = quiet_ends n c answer r new called.0 called.1 ends
 
-one_more : (n : ℕ) → StepGives counting (after n) Quiet (Ok tt) (after (suc n))
+one_more : (n : ℕ) → TurnGives counting (after n) Quiet (Ok tt) (after (suc n))
 one_more n = (Ok tt, suc n, (refl, refl), (refl, refl))
 
 pub once : MayDo counting (after 3) (Happen Quiet) (after 4) []
@@ -30,7 +30,7 @@ once = record { processed = Happen Quiet; begins = refl; outcome = Ok tt; gives 
 
 pub not_other : (m : ℕ) (shown : List Shown) → MayDo counting (after 3) (Happen Quiet) (after m) shown → m ≡ 4
 not_other m shown h =
-    let gives : StepGives counting (after 3) Quiet h.outcome (after m) = subst (λ (e : WorldEvent). EventGives counting (after 3) e h.outcome (after m)) h.begins h.gives in
+    let gives : TurnGives counting (after 3) Quiet h.outcome (after m) = subst (λ (e : WorldEvent). EventGives counting (after 3) e h.outcome (after m)) h.begins h.gives in
     let counts : Counts 3 h.outcome (after m) = quiet_counts 3 h.outcome (after m) gives in
     ap (λ (w : WorldState ℕ). w.carrier) counts.counted
 

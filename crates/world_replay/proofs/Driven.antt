@@ -4,8 +4,9 @@ use Rattle.std.proofs.Common.{◌≡◌, ◌⊎◌, inr, ℕ, Bool, true, false,
 use Rattle.std.proofs.lemmas.List.{append-nil, reverse-reverse, append_assoc}
 use Rattle.std.proofs.lemmas.List.Elements.{All-cons, All-nil, All-append}
 use Rattle.interface.specs.Calls.{Calls, Seen, crossing_of, is_memory, step_crossings, ShowsCrossings, ShowsOffer, ShowsRefusal, ShowsStep, ShowsTake, halted}
-use Rattle.net_sim.specs.World.{AskGives, AtProgram, AtSeat, DoesOrHalts, NetEnds, OfferEnds, OfferGives, Passes, QuietEnds, Refuses, StepGives, TakeEnds, TakeGives, TypeGives, WorldState, changed, done_by, noticed, seat_of, served_at, services_of, stops, with_carrier, with_server, with_user, world_moved, EventGives, turn_of}
-use Rattle.replay.specs.Replay.{GoesOn, Happens, IsOneCall}
+use Rattle.net_sim.specs.World.{AskGives, AtProgram, AtSeat, DoesOrHalts, NetEnds, OfferEnds, OfferGives, Passes, QuietEnds, Refuses, TurnGives, TakeEnds, TakeGives, TypeGives, WorldState, changed, done_by, noticed, seat_of, served_at, services_of, stops, with_carrier, with_server, with_user, world_moved, EventGives, turn_of}
+use Rattle.net_sim.proofs.lemmas.{alone}
+use Rattle.replay.specs.Replay.{GoesOn, Happens}
 use Rattle.replay.proofs.lemmas.{grown_more, crossings_shown}
 use Rattle.world_replay.specs.Driven.{Brings, Drive, Drives, Goes, IsCall, IsDriven, IsDrivenIn, IsShown, Raw, Round, call_of, program_of}
 use Rattle.world_replay.specs.Replay.{HappensInCalm, Replays}
@@ -26,6 +27,7 @@ use Rattle.sockets.specs.declared.request.Request.TheVariants as request
 use Rattle.world_replay.specs.Output.{Shown}
 use Rattle.world_replay.specs.Replay as world_replay
 use Rattle.world_replay.proofs.CalmEvents.{calm_events}
+use Rattle.world_replay.proofs.Staying.{script_same}
 use Rattle.world_replay.proofs.Steady.{halts_stop, passes_goes}
 use Rattle.world_script.specs.declared.event.WorldEvent.TheVariants as script
 
@@ -258,29 +260,29 @@ module _ {C : Type 0} (calls : Calls C) where
   event_driven (Out m) old r new on t = unchanged old new (Out m) refl t.1
 
   -- a world in which an event goes well has not run out of memory
-  pub step_runs : (e : Event) (old : WorldState C) (r : Answer) (new : WorldState C) → stops r ≡ false → StepGives (shown calls) old e r new → EventGives (shown calls) old e r new
-  step_runs e old r new on h = by old.stopped h where
+  pub turn_runs : (e : Event) (old : WorldState C) (r : Answer) (new : WorldState C) → stops r ≡ false → TurnGives (shown calls) old e r new → EventGives (shown calls) old e r new
+  turn_runs e old r new on h = by old.stopped h where
     by : (b : Bool) → MatchBool b (Refuses (Carrier fault.Stopped) old r new) (EventGives (shown calls) old e r new) → EventGives (shown calls) old e r new
     by true h = absurd (false≢true (sym on ∙ ap stops h.0))
     by false h = h
 
-  pub step_driven : (e : Event) (old : WorldState C) (r : Answer) (new : WorldState C) → stops r ≡ false → StepGives (shown calls) old e r new → Driven old e new
-  step_driven e old r new on h = event_driven e old r new on (step_runs e old r new on h)
+  pub turn_driven : (e : Event) (old : WorldState C) (r : Answer) (new : WorldState C) → stops r ≡ false → TurnGives (shown calls) old e r new → Driven old e new
+  turn_driven e old r new on h = event_driven e old r new on (turn_runs e old r new on h)
 
   -- ---- events in turn
 
   all_driven : (events : List Event) (old new : WorldState C) (lines : List Shown) → InTurn (HappensInCalm (shown calls)) old events new lines → (drives : List Drive) × InTurn (IsDriven calls) old events new drives
   all_driven [] old new lines h = ([], (h.0, refl))
   all_driven (e ∷ events) old new lines (mid, first, rest, one, more, all) =
-      let now : Driven old e mid = step_driven e old one.outcome mid one.goes_on one.gives in
+      let now : Driven old e mid = turn_driven e old one.outcome mid one.goes_on one.gives in
       let later : (drives : List Drive) × InTurn (IsDriven calls) mid events new drives = all_driven events mid new rest more in
       (now.0 ++ later.0, (mid, now.0, later.0, now.1, later.1, refl))
 
-  pub script_driven : (e : WorldEvent) (old new : WorldState C) (lines : List Shown) → world_replay.Happens (shown calls) old e new lines → (drives : List Drive) × IsDrivenIn calls old e new drives
-  script_driven (script.Happen e) old new lines h =
-      let now : Driven old e new = step_driven e old h.outcome new h.goes_on h.gives in
+  pub script_driven : (e : WorldEvent) (old new : WorldState C) (lines : List Shown) → old.strangers ≡ [] → world_replay.Happens (shown calls) old e new lines → (drives : List Drive) × IsDrivenIn calls old e new drives
+  script_driven (script.Happen e) old new lines none h =
+      let now : Driven old e new = turn_driven e old h.outcome new h.goes_on (alone (shown calls) old h.outcome new none e h.gives) in
       (now.0, (e ∷ [], refl, in_turn_one (IsDriven calls) old new e now.0 now.1))
-  script_driven (script.Calm rounds) old new lines h =
+  script_driven (script.Calm rounds) old new lines none h =
       let (events, alike, quiet, passes) = calm_events (shown calls) rounds old new lines h in
       let (drives, driven) = all_driven events old new lines passes in
       (drives, (events, (alike, quiet), driven))
@@ -337,15 +339,15 @@ module _ {C : Type 0} (calls : Calls C) where
   pub drives_in : (e : WorldEvent) (old new : WorldState C) (drives : List Drive) → IsDrivenIn calls old e new drives → Drives calls old new drives
   drives_in e old new drives (events, course, driven) = drives_all (IsDriven calls) drives_once events old new drives driven
 
-  replay_driven : (events : List WorldEvent) (old new : WorldState C) (lines : List Shown) → Replays (shown calls) old events new lines → (drives : List Drive) × InTurn (IsDrivenIn calls) old events new drives
-  replay_driven [] old new lines h = ([], (h.0, refl))
-  replay_driven (e ∷ events) old new lines (mid, first, rest, one, more, all) =
-      let now : (drives : List Drive) × IsDrivenIn calls old e mid drives = script_driven e old mid first one in
-      let later : (drives : List Drive) × InTurn (IsDrivenIn calls) mid events new drives = replay_driven events mid new rest more in
+  replay_driven : (events : List WorldEvent) (old new : WorldState C) (lines : List Shown) → old.strangers ≡ [] → Replays (shown calls) old events new lines → (drives : List Drive) × InTurn (IsDrivenIn calls) old events new drives
+  replay_driven [] old new lines none h = ([], (h.0, refl))
+  replay_driven (e ∷ events) old new lines none (mid, first, rest, one, more, all) =
+      let now : (drives : List Drive) × IsDrivenIn calls old e mid drives = script_driven e old mid first none one in
+      let later : (drives : List Drive) × InTurn (IsDrivenIn calls) mid events new drives = replay_driven events mid new rest (script_same (shown calls) e old one.outcome mid one.gives ∙ none) more in
       (now.0 ++ later.0, (mid, now.0, later.0, now.1, later.1, refl))
 
-  pub replay_drives : (events : List WorldEvent) (old new : WorldState C) (lines : List Shown) → Replays (shown calls) old events new lines
+  pub replay_drives : (events : List WorldEvent) (old new : WorldState C) (lines : List Shown) → old.strangers ≡ [] → Replays (shown calls) old events new lines
       → (drives : List Drive) × InTurn (IsDrivenIn calls) old events new drives × Drives calls old new drives
-  replay_drives events old new lines h =
-      let (drives, driven) = replay_driven events old new lines h in
+  replay_drives events old new lines none h =
+      let (drives, driven) = replay_driven events old new lines none h in
       (drives, driven, drives_all (IsDrivenIn calls) drives_in events old new drives driven)

@@ -4,7 +4,7 @@ use Rattle.std.proofs.Common.{◌≡◌, inr, ℕ, suc, ◌+◌, ◌≤◌, Bool
 use Rattle.std.proofs.lemmas.List.{append-nil, length-append, reverse-append, append_assoc}
 use Rattle.interface.specs.Calls.{Calls, crossing_of, step_crossings}
 use Rattle.net_sim.specs.declared.event.WorldFault.TheVariants.{Carrier, Program}
-use Rattle.net_sim.specs.World.{WorldState, seat_of, services_of, noticed, done_by, with_carrier, world_moved, changed, served_at, with_server, with_user, TypeGives, DoesOrHalts, Refuses, Does, Halts, Passes, OfferEnds, OfferGives, TakeEnds, TakeGives, NetEnds, QuietEnds, AskGives, AtProgram, AtSeat, StepGives, stops, turn_of, EventGives}
+use Rattle.net_sim.specs.World.{WorldState, seat_of, services_of, noticed, done_by, with_carrier, world_moved, changed, served_at, with_server, with_user, TypeGives, DoesOrHalts, Refuses, Does, Halts, Passes, OfferEnds, OfferGives, TakeEnds, TakeGives, NetEnds, QuietEnds, AskGives, AtProgram, AtSeat, TurnGives, stops, turn_of, EventGives}
 use Rattle.interface.specs.declared.carrier.CarrierFault.{CarrierFault}
 use Rattle.interface.specs.declared.carrier.CarrierFault.TheVariants as fault
 use Rattle.interface.specs.declared.crossing.Crossing.TheVariants as crossing
@@ -14,7 +14,7 @@ use Rattle.interface.specs.declared.message.HostMessage.{HostMessage}
 use Rattle.host_services.specs.Turns as services
 use Rattle.sockets.specs.declared.fault.NcpFault.TheVariants as problem
 use Rattle.sockets.specs.declared.request.Request.TheVariants as request
-use Rattle.net_sim.proofs.lemmas.{step_stands}
+use Rattle.net_sim.proofs.lemmas.{turn_stands}
 use Rattle.world_replay.proofs.News.{AreAbout, AreBetween, between_append, between_wider}
 use Rattle.world_replay.proofs.Reports.{about_append, about_wider, told_about}
 
@@ -280,7 +280,7 @@ module _ {C : Type 0} (calls : Calls C) where
       at_host (λ s. TypeGives h line s (services_of h old.services).typing old r new) h old r new (λ s g. type_grows h line s (services_of h old.services).typing old r new g) t
   event_grows (Out m) old r new other t = grew_same old.kept new.kept (ap (λ (w : WorldState C). w.kept) t.1)
 
-  event_gains : (e : Event) (old : WorldState C) (r : Result (Unit {0}) WorldFault) (new : WorldState C) → EventGives calls old e r new → Gains old.kept new.kept
+  pub event_gains : (e : Event) (old : WorldState C) (r : Result (Unit {0}) WorldFault) (new : WorldState C) → EventGives calls old e r new → Gains old.kept new.kept
   event_gains (Server h listen base) old r new t =
       at_seat (λ s. DoesOrHalts (with_server h listen base s old) old r new) (Gains old.kept new.kept) (seat_of h old.seats) old r new (λ is. gains_same old.kept new.kept (ap (λ (w : WorldState C). w.kept) is))
       (λ s g. begun h (services.server_begun listen base (services_of h old.services) (opening_desk h (noticed old) s)) old (with_server h listen base s old) r new refl g) t
@@ -289,15 +289,15 @@ module _ {C : Type 0} (calls : Calls C) where
       (λ s g. begun h (services.user_begun peer listen own (services_of h old.services) (opening_desk h (noticed old) s)) old (with_user h peer listen own s old) r new refl g) t
   event_gains e old r new t = (event_grows e old r new refl t).gains
 
-  pub step_grows : (e : Event) (old : WorldState C) (r : Result (Unit {0}) WorldFault) (new : WorldState C) → begins e ≡ false → StepGives calls old e r new → Grew old.kept new.kept
-  step_grows e old r new other h =
+  pub turn_grows : (e : Event) (old : WorldState C) (r : Result (Unit {0}) WorldFault) (new : WorldState C) → begins e ≡ false → TurnGives calls old e r new → Grew old.kept new.kept
+  turn_grows e old r new other h =
       if_stopped (EventGives calls old e r new) (Grew old.kept new.kept) old r new old.stopped (λ is. grew_same old.kept new.kept (ap (λ (w : WorldState C). w.kept) is)) (λ g. event_grows e old r new other g) h
 
-  pub step_gains : (e : Event) (old : WorldState C) (r : Result (Unit {0}) WorldFault) (new : WorldState C) → StepGives calls old e r new → Gains old.kept new.kept
-  step_gains e old r new h =
+  pub turn_gains : (e : Event) (old : WorldState C) (r : Result (Unit {0}) WorldFault) (new : WorldState C) → TurnGives calls old e r new → Gains old.kept new.kept
+  turn_gains e old r new h =
       if_stopped (EventGives calls old e r new) (Gains old.kept new.kept) old r new old.stopped (λ is. gains_same old.kept new.kept (ap (λ (w : WorldState C). w.kept) is)) (λ g. event_gains e old r new g) h
 
   -- where memory runs out, the book is unchanged
-  pub step_kept : (e : Event) (old : WorldState C) (r : Result (Unit {0}) WorldFault) (new : WorldState C) → StepGives calls old e r new → stops r ≡ true → new.kept ≡ old.kept
-  step_kept e old (Ok done) new h halts = absurd (false≢true halts)
-  step_kept e old (Err f) new h halts = step_stands calls f old (Err f) new refl e h
+  pub turn_kept : (e : Event) (old : WorldState C) (r : Result (Unit {0}) WorldFault) (new : WorldState C) → TurnGives calls old e r new → stops r ≡ true → new.kept ≡ old.kept
+  turn_kept e old (Ok done) new h halts = absurd (false≢true halts)
+  turn_kept e old (Err f) new h halts = turn_stands calls f old (Err f) new refl e h

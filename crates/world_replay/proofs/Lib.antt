@@ -7,15 +7,16 @@ mod Counting
 pub mod Driven
 mod Driving
 pub mod Gained
+pub mod Gaining
 pub mod Grown
 pub mod ByKind
-pub mod Mixed
-mod MixedOnce
+pub mod Once
 pub mod News
 pub mod Replayable
 pub mod Replays
 pub mod Reports
 pub mod Rounds
+pub mod Staying
 pub mod Steady
 pub mod Strangers
 mod Ticking

@@ -1,12 +1,12 @@
--- What a replay needs of worlds, of those with strangers as well.
-use Rattle.world_replay.proofs.Common.{◌≡◌, ℕ, ◌+◌, zero, suc, Bool, true, false, List, ◌++◌, Result, Ok, refl, ap₂, subst, ◌∙◌, arith, Calls, CalmGives, Calms, WorldState, stops, WorldFault, Gains, gained, mixed_kind}
+-- What a replay needs of worlds.
+use Rattle.world_replay.proofs.Common.{◌≡◌, ℕ, ◌+◌, zero, suc, Bool, true, false, List, ◌++◌, Result, Ok, refl, ap₂, subst, ◌∙◌, arith, Calls, CalmGives, Calms, WorldState, stops, WorldFault, Gains, gained}
 use Rattle.world_replay.specs.Steps.{IsReplayable}
 use Rattle.world_replay.specs.Replay.{world_kind}
 use Rattle.world_replay.specs.Output.{Shown}
 use Rattle.world_replay.proofs.CalmRounds.{in_rounds, parted}
 use Rattle.world_replay.proofs.Grown.{Grew, grew_more}
-use Rattle.world_replay.proofs.Mixed.{mixed_event_gains}
-use Rattle.world_replay.proofs.Replays.{calm_grows, event_gains, gained_more, gains_once, same_news}
+use Rattle.world_replay.proofs.Gaining.{script_gains}
+use Rattle.world_replay.proofs.Replays.{calm_grows, gained_more, gains_once, same_news}
 use Rattle.world_replay.proofs.Rounds.{calm_one, calm_stopped, done_runs, is_false, is_true, round_ends, when_false, when_true}
 
 abbrev Answer : Type 0
@@ -61,18 +61,7 @@ module _ {C : Type 0} (calls : Calls C) where
   pub world_replayable : IsReplayable (world_kind calls)
   world_replayable = record {
     well = λ n old r new g on. well n old r new g on;
-    gains = λ e old r new h. event_gains calls e old r new h;
-    more = λ n k old mid new r q g on h. more n k old mid new r q g on h;
-    shows = λ n k old mid new r q first next g h all. shows n k old mid new r q first next g h all;
-    ends = λ k old new r g halts. ends k old new r g halts old.stopped refl;
-  }
-
-  -- ---- with strangers
-
-  pub mixed_replayable : IsReplayable (mixed_kind calls)
-  mixed_replayable = record {
-    well = λ n old r new g on. well n old r new g on;
-    gains = λ e old r new h. mixed_event_gains calls e old r new h;
+    gains = λ e old r new h. script_gains calls e old r new h;
     more = λ n k old mid new r q g on h. more n k old mid new r q g on h;
     shows = λ n k old mid new r q first next g h all. shows n k old mid new r q first next g h all;
     ends = λ k old new r g halts. ends k old new r g halts old.stopped refl;

@@ -1,23 +1,12 @@
 -- One event of a world's script, and what it shows.
-use Rattle.world_replay.proofs.Common.{◌≡◌, ℕ, ◌+◌, true, false, List, ◌++◌, drop, length, reverse, Option, Result, refl, ap, sym, subst, ◌∙◌, arith, Appends, Kept, shown, CalmGives, StepGives, WorldState, stops, Event, Calls, WorldFault, HappensOnce, ShowsFront, in_turn_once, ends_front, WorldEvent, Detail, calm_keeps}
-use Rattle.std.proofs.lemmas.List.{length-append, length-reverse, reverse-append, reverse-reverse, append_assoc, append_cancel_left, append_cancel_right, drop_at}
+use Rattle.world_replay.proofs.Common.{◌≡◌, ℕ, ◌+◌, true, false, List, ◌++◌, drop, length, reverse, Option, Result, refl, ap, sym, subst, ◌∙◌, arith, Appends, Kept, shown, CalmGives, TurnGives, WorldState, stops, Event, Calls, WorldFault, Detail, calm_keeps}
+use Rattle.std.proofs.lemmas.List.{length-append, length-reverse, reverse-append, reverse-reverse, append_cancel_left, append_cancel_right, drop_at}
 use Rattle.replay.specs.Settled.{AreSettled, Grows}
 use Rattle.world_replay.specs.Gains.{Gains, gained, news}
-use Rattle.world_replay.specs.Output.{Writes, output, shown_in_turn, told_in_turn, Shown, shown_refusal}
-use Rattle.world_replay.specs.Replay.{HappensInCalm, Replays, StopsIn, EndsIn, EventGives, Happens}
-use Rattle.world_script.specs.declared.event.WorldEvent.TheVariants as event
-use Rattle.world_replay.proofs.Grown.{Grew, begins, gains_none, grew_more, grew_none, step_gains, step_grows, step_kept}
+use Rattle.world_replay.specs.Output.{Writes, output, shown_in_turn, told_in_turn}
+use Rattle.world_replay.specs.Replay.{HappensInCalm, StopsInCalm}
+use Rattle.world_replay.proofs.Grown.{Grew, begins, grew_more, grew_none, turn_gains, turn_grows}
 use Rattle.world_replay.proofs.News.{news_later, told_begin, told_later, told_want}
-use Rattle.world_replay.proofs.Steady.{Steady, steady_calm, step_once}
-
--- ---- one event
-
-event_once : {C : Type 0} (calls : Calls C) → AreSettled calls → (e : WorldEvent) (old : WorldState C)
-    (r q : Result (Unit {0}) WorldFault) (new other : WorldState C) → EventGives calls old e r new → stops r ≡ false
-    → EventGives calls old e q other → stops q ≡ false
-    → (r ≡ q) × (new ≡ other)
-event_once calls settled (event.Happen e) old r q new other h hg k kg = step_once calls settled e old r q new other h hg k kg
-event_once calls settled (event.Calm rounds) old r q new other h hg k kg = (steady_calm calls settled rounds old).once r q new other h hg k kg
 
 -- a book gains one list of crossings, one of notices and one of reports
 pub record SameGains {old new other : Kept} (g : Gains old new) (k : Gains old other) : Type 0 where
@@ -39,16 +28,6 @@ gains_once old new other g k same =
       notices = append_cancel_left old.book.notices g.notices k.notices told;
       reports = append_cancel_left old.book.reports g.reports k.reports said;
     }
-
--- ---- no choice
-
-pub happens_once : {C : Type 0} (calls : Calls C) → AreSettled calls → HappensOnce (Happens calls)
-happens_once {C} calls settled old e new other shown more h k =
-    let one : (h.outcome ≡ k.outcome) × (new ≡ other) = event_once calls settled e old h.outcome k.outcome new other h.gives h.goes_on k.gives k.goes_on in
-    let same : SameGains h.gains k.gains = gains_once old.kept new.kept other.kept h.gains k.gains (ap (λ (w : WorldState C). w.kept) one.1) in (
-      one.1,
-      h.lines ∙ ap (λ xs. xs ++ shown_refusal h.outcome) (same_news old.kept new.kept other.kept h.gains k.gains same) ∙ ap (λ r. gained k.gains ++ shown_refusal r) one.0 ∙ sym k.lines,
-    )
 
 -- this many crossings were there, and this many came
 counted : (old new : Kept) (g : Gains old new)
@@ -76,35 +55,12 @@ gained_more old mid new g k =
     (told_want (length old.book.crossings) (length mid.book.crossings) n g.gains.notices g.gains.reports g.between)
     (told_begin (length mid.book.crossings) (length new.book.crossings) (length mid.book.notices) (length new.book.notices) k.gains.notices k.gains.reports (noticed mid new k.gains) k.between k.about)
 
--- where memory ran out, what is shown is the first part of what is shown where it doesn't
-stops_front : {C : Type 0} (calls : Calls C) → AreSettled calls → ShowsFront (StopsIn calls) (Happens calls)
-stops_front {C} calls settled old (event.Happen e) new other part whole h k =
-    let stood : SameGains h.gains (gains_none old.kept) = gains_once old.kept new.kept old.kept h.gains (gains_none old.kept) (step_kept calls e old h.outcome new h.gives h.stops) in
-    (whole, ap (λ xs. xs ++ whole) (sym (h.lines ∙ same_news old.kept new.kept old.kept h.gains (gains_none old.kept) stood)))
-stops_front {C} calls settled old (event.Calm rounds) new other part whole h k =
-    let way : Steady old.kept (EventGives calls old (event.Calm rounds)) = steady_calm calls settled rounds old in
-    let mine : Grew old.kept new.kept = way.grows h.outcome new h.gives in
-    let later : Grew new.kept other.kept = way.first h.outcome k.outcome new other h.gives h.stops k.gives k.goes_on in
-    let all : Grew old.kept other.kept = grew_more old.kept new.kept other.kept mine later in
-    let part_is : part ≡ gained mine.gains = h.lines ∙ same_news old.kept new.kept new.kept h.gains mine.gains (gains_once old.kept new.kept new.kept h.gains mine.gains refl) in
-    let whole_is : whole ≡ gained all.gains ++ shown_refusal k.outcome =
-    k.lines ∙ ap (λ xs. xs ++ shown_refusal k.outcome) (same_news old.kept other.kept other.kept k.gains all.gains (gains_once old.kept other.kept other.kept k.gains all.gains refl)) in (
-      gained later.gains ++ shown_refusal k.outcome,
-      whole_is ∙ ap (λ xs. xs ++ shown_refusal k.outcome) (gained_more old.kept new.kept other.kept mine later) ∙ append_assoc (gained mine.gains) (gained later.gains) (shown_refusal k.outcome)
-          ∙ ap (λ xs. xs ++ (gained later.gains ++ shown_refusal k.outcome)) (sym part_is),
-    )
-
 -- ---- printing an event
 
 pub calm_grows : {C : Type 0} (calls : Calls C) (rounds : ℕ) (old : WorldState C) (r : Result (Unit {0}) WorldFault)
     (new : WorldState C) → CalmGives calls rounds old r new → Grew old.kept new.kept
 calm_grows {C} calls rounds old r new h =
-    calm_keeps calls (λ (w : WorldState C). Grew old.kept w.kept) (λ e. begins e ≡ false) refl (λ x. refl) (λ x. refl) (λ e v q w n g s. grew_more old.kept v.kept w.kept g (step_grows calls e v q w n s)) rounds old r new (grew_none old.kept) h
-
-pub event_gains : {C : Type 0} (calls : Calls C) (e : WorldEvent) (old : WorldState C)
-    (r : Result (Unit {0}) WorldFault) (new : WorldState C) → EventGives calls old e r new → Gains old.kept new.kept
-event_gains calls (event.Happen e) old r new h = step_gains calls e old r new h
-event_gains calls (event.Calm rounds) old r new h = (calm_grows calls rounds old r new h).gains
+    calm_keeps calls (λ (w : WorldState C). Grew old.kept w.kept) (λ e. begins e ≡ false) refl (λ x. refl) (λ x. refl) (λ e v q w n g s. grew_more old.kept v.kept w.kept g (turn_grows calls e v q w n s)) rounds old r new (grew_none old.kept) h
 
 -- the crossings, notices and reports after those of before are what the book gained
 pub news_is : (old new : Kept) (g : Gains old new) (crossed told said : ℕ) → crossed ≡ length old.book.crossings
@@ -132,10 +88,10 @@ News contents detail crossed told said a mid k =
 pub calm_shown : {C W : Type 0} (contents : W → Option (List ℕ)) (calls : Calls C) (detail : Detail)
     (old : WorldState C) (e : Event) (outcome : Result (Unit {0}) WorldFault) (new : WorldState C)
     (crossed told said : ℕ) (a : Option (List ℕ)) (mid : W)
-    → StepGives calls old e outcome new → crossed ≡ length old.kept.book.crossings → told ≡ length old.kept.book.notices → said ≡ length old.kept.book.reports
+    → TurnGives calls old e outcome new → crossed ≡ length old.kept.book.crossings → told ≡ length old.kept.book.notices → said ≡ length old.kept.book.reports
     → News contents detail crossed told said a mid new.kept → stops outcome ≡ false → Writes detail (HappensInCalm calls old e new) a (contents mid)
 calm_shown contents calls detail old e outcome new crossed told said a mid gives is same alike lines goes =
-    let gains : Gains old.kept new.kept = step_gains calls e old outcome new gives in
+    let gains : Gains old.kept new.kept = turn_gains calls e old outcome new gives in
     record {
       shown = gained gains;
       is_shown = record { outcome = outcome; gives = gives; goes_on = goes; gains = gains; lines = refl };
@@ -145,10 +101,10 @@ calm_shown contents calls detail old e outcome new crossed told said a mid gives
 pub calm_stopped : {C W : Type 0} (contents : W → Option (List ℕ)) (calls : Calls C) (detail : Detail)
     (old : WorldState C) (e : Event) (outcome : Result (Unit {0}) WorldFault) (new : WorldState C)
     (crossed told said : ℕ) (a : Option (List ℕ)) (mid : W)
-    → StepGives calls old e outcome new → crossed ≡ length old.kept.book.crossings → told ≡ length old.kept.book.notices → said ≡ length old.kept.book.reports
-    → News contents detail crossed told said a mid new.kept → stops outcome ≡ true → Writes detail (StopsIn calls old (event.Happen e) new) a (contents mid)
+    → TurnGives calls old e outcome new → crossed ≡ length old.kept.book.crossings → told ≡ length old.kept.book.notices → said ≡ length old.kept.book.reports
+    → News contents detail crossed told said a mid new.kept → stops outcome ≡ true → Writes detail (StopsInCalm calls old e new) a (contents mid)
 calm_stopped contents calls detail old e outcome new crossed told said a mid gives is same alike lines halts =
-    let gains : Gains old.kept new.kept = step_gains calls e old outcome new gives in
+    let gains : Gains old.kept new.kept = turn_gains calls e old outcome new gives in
     record {
       shown = gained gains;
       is_shown = record { outcome = outcome; gives = gives; stops = halts; gains = gains; lines = refl };
@@ -170,14 +126,3 @@ shown_settled own s = record {
   refused_taking = λ old g f new h. s.refused_taking old g f new h.0;
   quiet_round = λ old r new h. s.quiet_round old r new h.0;
 }
-
-pub one_replay : {C : Type 0} (own : Calls C) → AreSettled own → (old new other : WorldState C)
-    (events : List WorldEvent) (lines more : List Shown)
-    → Replays (shown own) old events new lines → Replays (shown own) old events other more → (new ≡ other) × (lines ≡ more)
-one_replay own s old new other events lines more h k = in_turn_once (Happens (shown own)) (happens_once (shown own) (shown_settled own s)) old events new other lines more h k
-
-pub first_part : {C : Type 0} (own : Calls C) → AreSettled own → (old new other : WorldState C)
-    (events : List WorldEvent) (part whole : List Shown)
-    → EndsIn (shown own) (StopsIn (shown own)) old events new part → Replays (shown own) old events other whole → (rest : List Shown) × (whole ≡ part ++ rest)
-first_part own s old new other events part whole h k =
-    ends_front (Happens (shown own)) (StopsIn (shown own)) (happens_once (shown own) (shown_settled own s)) (stops_front (shown own) (shown_settled own s)) old events new other part whole h k

@@ -1,9 +1,9 @@
 -- A settled carrier leaves a world no choice.
 use Rattle.world_replay.proofs.Common.{false≢true, MatchBool, Host, Kept, Event, Net, Quiet, Offer, Out, Take, Ask, Server, User, Typed, WorldFault, Carrier, Seat, accepted, NcpState, refusal, next_out, offered, NcpFault, Request, line_bits}
-use Rattle.net_sim.specs.MixedWorlds.{FetchEnds, OutEnds, FetchGives, OutGives}
+use Rattle.net_sim.specs.Steps.{FetchEnds, OutEnds, FetchGives, OutGives}
 use Rattle.std.proofs.Common.{◌≡◌, inl, inr, ℕ, zero, suc, Bool, true, false, List, [], ◌∷◌, length, nat_lt, Option, Some, None, Result, Ok, Err, refl, sym, ap, subst, ◌∙◌, ◌||◌}
 use Rattle.interface.specs.Calls.{Calls, crossing_of, step_crossings, is_memory, is_halt}
-use Rattle.net_sim.specs.World.{WorldState, seat_of, services_of, up_in, with_carrier, world_moved, changed, with_server, with_user, TypeGives, DoesOrHalts, stops, Refuses, Does, Halts, Passes, OfferEnds, OfferGives, TakeEnds, TakeGives, NetEnds, QuietEnds, AskGives, AtProgram, AtSeat, StepGives, Repeats, TurnsOf, Calms, CalmGives, EventGives}
+use Rattle.net_sim.specs.World.{WorldState, seat_of, services_of, up_in, with_carrier, world_moved, changed, with_server, with_user, TypeGives, DoesOrHalts, stops, Refuses, Does, Halts, Passes, OfferEnds, OfferGives, TakeEnds, TakeGives, NetEnds, QuietEnds, AskGives, AtProgram, AtSeat, TurnGives, Repeats, TurnsOf, Calms, CalmGives, EventGives}
 use Rattle.replay.specs.Replay.{GoesOn, outcome_of}
 use Rattle.replay.specs.Settled.{AreSettled, SameEnd}
 use Rattle.interface.specs.declared.carrier.CarrierFault.{CarrierFault}
@@ -14,7 +14,7 @@ use Rattle.interface.specs.declared.event.NetEvent.{NetEvent}
 use Rattle.interface.specs.declared.message.HostMessage.{HostMessage}
 use Rattle.net_sim.proofs.lemmas.{memory_stops}
 use Rattle.sockets.specs.declared.request.Request.TheVariants as request
-use Rattle.world_replay.proofs.Grown.{Grew, begins, grew_more, grew_same, step_grows, step_kept}
+use Rattle.world_replay.proofs.Grown.{Grew, begins, grew_more, grew_same, turn_grows, turn_kept}
 
 -- ---- what goes one way
 
@@ -278,7 +278,7 @@ module _ {C : Type 0} (calls : Calls C) (settled : AreSettled calls) where
   at_seat P Q None old r q new other once g k = (g.0 ∙ sym k.0, g.1 ∙ sym k.1)
   at_seat P Q (Some seat) old r q new other once g k = at_program P Q seat.program old r q new other once g k
 
-  event_once : (e : Event) (old : WorldState C) (r q : Result (Unit {0}) WorldFault) (new other : WorldState C) → EventGives calls old e r new → stops r ≡ false → EventGives calls old e q other → stops q ≡ false → (r ≡ q) × (new ≡ other)
+  pub event_once : (e : Event) (old : WorldState C) (r q : Result (Unit {0}) WorldFault) (new other : WorldState C) → EventGives calls old e r new → stops r ≡ false → EventGives calls old e q other → stops q ≡ false → (r ≡ q) × (new ≡ other)
   event_once (Net e) old r q new other g hg k kg =
       ends_once (calls.steps old.carrier e) (changed_by e old) old r q new other (λ a b c d ca ga cb gb. settled.steps_once old.carrier e a b c d ca (goes_as a ga) cb (goes_as b gb))
       (net_ends e old g.0 g.1 r new g.2 g.3 hg) (net_ends e old k.0 k.1 q other k.2 k.3 kg)
@@ -309,25 +309,25 @@ module _ {C : Type 0} (calls : Calls C) (settled : AreSettled calls) where
   stopped_once f old r q new other true P Q once g k = (g.0 ∙ sym k.0, g.1 ∙ sym k.1)
   stopped_once f old r q new other false P Q once g k = once g k
 
-  pub step_once : (e : Event) (old : WorldState C) (r q : Result (Unit {0}) WorldFault) (new other : WorldState C) → StepGives calls old e r new → stops r ≡ false → StepGives calls old e q other → stops q ≡ false → (r ≡ q) × (new ≡ other)
-  step_once e old r q new other g hg k kg =
+  pub turn_once : (e : Event) (old : WorldState C) (r q : Result (Unit {0}) WorldFault) (new other : WorldState C) → TurnGives calls old e r new → stops r ≡ false → TurnGives calls old e q other → stops q ≡ false → (r ≡ q) × (new ≡ other)
+  turn_once e old r q new other g hg k kg =
       stopped_once (Carrier fault.Stopped) old r q new other old.stopped (EventGives calls old e r new) (EventGives calls old e q other) (λ a b. event_once e old r q new other a hg b kg) g k
 
   -- ---- several events
 
-  steady_step : (e : Event) (old : WorldState C) → begins e ≡ false → Steady old.kept (StepGives calls old e)
-  steady_step e old other = record {
-    once = λ r q new last h hg k kg. step_once e old r q new last h hg k kg;
-    grows = λ r new h. step_grows calls e old r new other h;
-    first = λ r q new last h halts k goes. subst (λ (x : Kept). Grew x last.kept) (sym (step_kept calls e old r new h halts)) (step_grows calls e old q last other k);
+  steady_turn : (e : Event) (old : WorldState C) → begins e ≡ false → Steady old.kept (TurnGives calls old e)
+  steady_turn e old other = record {
+    once = λ r q new last h hg k kg. turn_once e old r q new last h hg k kg;
+    grows = λ r new h. turn_grows calls e old r new other h;
+    first = λ r q new last h halts k goes. subst (λ (x : Kept). Grew x last.kept) (sym (turn_kept calls e old r new h halts)) (turn_grows calls e old q last other k);
   }
 
   steady_repeats : (e : Event) (times : ℕ) (old : WorldState C) → begins e ≡ false → Steady old.kept (Repeats calls e times old)
   steady_repeats e zero old other = steady_done old
   steady_repeats e (suc times) old other =
-      steady_then old.kept (StepGives calls old e)
+      steady_then old.kept (TurnGives calls old e)
       (λ mid r new. MatchBool (nat_lt (length old.kept.book.crossings) (length mid.kept.book.crossings)) (Repeats calls e times mid r new) (Does mid r new))
-      (steady_step e old other)
+      (steady_turn e old other)
       (λ mid. steady_either mid.kept (nat_lt (length old.kept.book.crossings) (length mid.kept.book.crossings)) (Repeats calls e times mid) (Does mid) (steady_repeats e times mid other) (steady_done mid))
 
   steady_turns : (hosts : List Host) (old : WorldState C) → Steady old.kept (TurnsOf calls hosts old)
@@ -341,9 +341,9 @@ module _ {C : Type 0} (calls : Calls C) (settled : AreSettled calls) where
   steady_calms : (times : ℕ) (old : WorldState C) → Steady old.kept (Calms calls times old)
   steady_calms zero old = steady_done old
   steady_calms (suc times) old =
-      steady_then old.kept (StepGives calls old Quiet)
+      steady_then old.kept (TurnGives calls old Quiet)
       (λ quiet r new. Then (TurnsOf calls (up_in quiet.seats) quiet) (λ turned. Calms calls times turned) r new)
-      (steady_step Quiet old refl)
+      (steady_turn Quiet old refl)
       (λ quiet. steady_then quiet.kept (TurnsOf calls (up_in quiet.seats) quiet) (λ turned. Calms calls times turned) (steady_turns (up_in quiet.seats) quiet) (λ turned. steady_calms times turned))
 
   steady_refused : (old : WorldState C) → Steady old.kept (λ r new. Refuses (Carrier fault.Stopped) old r new)

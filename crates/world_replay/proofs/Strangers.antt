@@ -1,10 +1,11 @@
 -- What is shown of a stranger in a small world.
-use Rattle.world_replay.proofs.Common.{append-nil, Host, same_host, Crossing, Event, Ask, Net, Offer, Quiet, Server, Take, Typed, User, Out, WorldFault, Kept, crossed, Gains, gained, NcpState, opening_state, first, second, third, Seat, IsOfCalm, calm_keeps, Told, HappensBy, mixed_kind, WorldEvent}
+use Rattle.world_replay.proofs.Common.{append-nil, Host, same_host, Crossing, Event, Ask, Net, Offer, Quiet, Server, Take, Typed, User, Out, WorldFault, Kept, crossed, Gains, gained, NcpState, opening_state, first, second, third, Seat, IsOfCalm, calm_keeps, Told, WorldEvent}
+use Rattle.world_replay.specs.Replay.{Happens}
 use Rattle.std.proofs.Common.{◌≡◌, inl, inr, ℕ, Bool, true, false, List, [], ◌∷◌, ◌++◌, Option, None, Some, Result, Ok, Err, refl, ap, sym, subst, ◌∙◌, if◌then◌else◌}
 use Rattle.interface.specs.Calls.{Calls, Seen, crossing_of, grown}
-use Rattle.net_sim.specs.World.{StepGives, WorldState, AtProgram, AtSeat, OfferGives, QuietEnds, TakeEnds, TakeGives, changed, stops, seat_of, world_moved, Refuses, EventGives, opening_seats}
+use Rattle.net_sim.specs.World.{TurnGives, WorldState, AtProgram, AtSeat, OfferGives, QuietEnds, TakeEnds, TakeGives, changed, stops, seat_of, world_moved, Refuses, EventGives, opening_seats}
 use Rattle.net_sim.specs.Worked.{message, any_carrier, accepting_carrier}
-use Rattle.net_sim.specs.MixedWorlds.{FetchEnds, OutEnds}
+use Rattle.net_sim.specs.Steps.{FetchEnds, OutEnds}
 use Rattle.world_replay.specs.Output.{Noticed, shown_refusal, Crossed, Refused, Shown}
 use Rattle.bit_messages.specs.Octets.{octets_of}
 use Rattle.host_pairs.specs.Control.{orders_of}
@@ -19,15 +20,15 @@ use Rattle.interface.specs.declared.crossing.Inbound.TheVariants as inbound
 use Rattle.interface.specs.declared.message.HostMessage.{HostMessage}
 use Rattle.ncp_control.specs.Packing.{packed_count}
 use Rattle.ncp_control.specs.Reading.{command_of, read_of}
-use Rattle.net_sim.specs.WorkedMixed.{beside_third, three_seen, waiting_carrier}
+use Rattle.net_sim.specs.WorkedStrangers.{beside_third, three_seen, waiting_carrier}
 use Rattle.sockets.specs.Accepting.{accepted}
 use Rattle.sockets.specs.Sending.{next_out}
 use Rattle.world_replay.proofs.Grown.{at_seat, gains_none, if_stopped}
-use Rattle.world_replay.proofs.Replayable.{mixed_replayable}
+use Rattle.world_replay.proofs.Replayable.{world_replayable}
 use Rattle.world_replay.proofs.Replays.{gains_once, same_news}
 use Rattle.world_replay.proofs.Rounds.{is_false}
 use Rattle.world_replay.proofs.Steady.{halts_stop}
-use Rattle.world_replay.specs.WorkedMixed.{MayShow, hail, hailed}
+use Rattle.world_replay.specs.WorkedStrangers.{MayShow, hail, hailed}
 use Rattle.world_script.specs.declared.event.WorldEvent.TheVariants as script
 
 -- a book that gains nothing shows nothing, and one that gains a crossing shows that
@@ -45,7 +46,7 @@ world = beside_third
 -- ---- refusals
 
 pub refused_only : (calls : Calls Seen) (e : WorldEvent) (f : WorldFault) (new : WorldState Seen)
-    (shown : List Shown) (h : HappensBy (mixed_kind calls) beside_third e new shown)
+    (shown : List Shown) (h : Happens calls beside_third e new shown)
     → Refuses f world h.outcome new → shown ≡ Refused f ∷ []
 refused_only calls e f new shown h refuses =
     h.lines ∙ ap (λ (xs : List Shown). xs ++ shown_refusal h.outcome) (unmoved beside_third.kept new.kept h.gains (ap (λ (w : WorldState Seen). w.kept) refuses.1))
@@ -54,7 +55,7 @@ refused_only calls e f new shown h refuses =
 -- ---- what it says and takes
 
 went_well : (c : Crossing) (e : WorldEvent) (calls : Calls Seen) (new : WorldState Seen) (shown : List Shown)
-    (h : HappensBy (mixed_kind calls) beside_third e new shown)
+    (h : Happens calls beside_third e new shown)
     → (new.kept ≡ crossed c beside_third.kept) × (h.outcome ≡ Ok tt) → shown ≡ Crossed c ∷ []
 went_well c e calls new shown h (kept, well) =
     h.lines ∙ ap (λ (xs : List Shown). xs ++ shown_refusal h.outcome) (moved c beside_third.kept new.kept h.gains kept)
@@ -78,7 +79,7 @@ took i (Ok (Some j)) c q w is (inr h) on = absurd (halts_stop c world q w h on)
 took i (Err e) c q w is ends on = absurd (cc)
 
 pub says_only : (new : WorldState Seen) (shown : List Shown)
-    → HappensBy (mixed_kind accepting_carrier) beside_third (script.Happen (Out (message third first 2))) new shown
+    → Happens accepting_carrier beside_third (script.Happen (Out (message third first 2))) new shown
     → shown ≡ Crossed (crossing.Out (message third first 2)) ∷ []
 says_only new shown h =
     let (a, c, call, ends) = h.gives in
@@ -86,7 +87,7 @@ says_only new shown h =
     (said (message third first 2) a c h.outcome new call.0 ends h.goes_on)
 
 pub takes_only : (new : WorldState Seen) (shown : List Shown)
-    → HappensBy (mixed_kind waiting_carrier) beside_third (script.Happen (Take third)) new shown
+    → Happens waiting_carrier beside_third (script.Happen (Take third)) new shown
     → (i : Inbound) × (shown ≡ Crossed (crossing_of i) ∷ [])
 takes_only new shown h =
     let (a, c, ((i, given), seen), ends) = h.gives in
@@ -169,14 +170,14 @@ event_stays (Typed h line) old r new n p t = absurd n
 event_stays (Out m) old r new n p t = absurd n
 
 step_stays : (e : Event) (old : WorldState Seen) (r : Result (Unit {0}) WorldFault) (new : WorldState Seen)
-    → IsOfCalm e → Stays old → StepGives waiting_carrier old e r new → Stays new
+    → IsOfCalm e → Stays old → TurnGives waiting_carrier old e r new → Stays new
 step_stays e old r new n p h = if_stopped waiting_carrier (EventGives waiting_carrier old e r new) (Stays new) old r new old.stopped (λ is. still old new p is) (λ t. event_stays e old r new n p t) h
 
 pub waits : (rounds : ℕ) (new : WorldState Seen) (shown : List Shown)
-    → HappensBy (mixed_kind waiting_carrier) beside_third (script.Calm rounds) new shown → shown ≡ []
+    → Happens waiting_carrier beside_third (script.Calm rounds) new shown → shown ≡ []
 waits rounds new shown h =
     let stays : Stays new = calm_keeps waiting_carrier Stays IsOfCalm tt (λ x. tt) (λ x. tt) (λ e old r w n p s. step_stays e old r w n p s) rounds world h.outcome new (refl, refl) h.gives in
-    let well : h.outcome ≡ Ok tt = (mixed_replayable waiting_carrier).well rounds beside_third h.outcome new h.gives h.goes_on in
+    let well : h.outcome ≡ Ok tt = (world_replayable waiting_carrier).well rounds beside_third h.outcome new h.gives h.goes_on in
     h.lines ∙ ap (λ (xs : List Shown). xs ++ shown_refusal h.outcome) (unmoved beside_third.kept new.kept h.gains stays.0) ∙ ap shown_refusal well
 
 -- ---- it hails a host, which answers
@@ -194,7 +195,7 @@ heard = world_moved (grown sent.carrier (crossing.In hail ∷ [])) first (crossi
 abbrev answered : WorldState Seen
 answered = changed (grown heard.carrier (crossing.Answer answer.Rfnm hail.flow ∷ [])) (crossing.Answer answer.Rfnm hail.flow ∷ []) heard
 
-pub goes_out : HappensBy (mixed_kind there) beside_third (script.Happen (Out hail)) sent (Crossed (crossing.Out hail) ∷ [])
+pub goes_out : Happens there beside_third (script.Happen (Out hail)) sent (Crossed (crossing.Out hail) ∷ [])
 goes_out = record {
   outcome = Ok tt;
   gives = (Ok tt, grown three_seen (crossing.Out hail ∷ []), record { running = refl; shown = refl }, inl (refl, refl));
@@ -206,7 +207,7 @@ goes_out = record {
 abbrev told : Told
 told = record { host = first; place = 2; notice = notice.Ready third }
 
-comes_in : HappensBy (mixed_kind there) sent (script.Happen (Take first)) heard (Crossed (crossing.In hail) ∷ Noticed told ∷ [])
+comes_in : Happens there sent (script.Happen (Take first)) heard (Crossed (crossing.In hail) ∷ Noticed told ∷ [])
 unfolding accepted services.services_told octets_of packed_count command_of read_of orders_of
 comes_in = record {
   outcome = Ok tt;
@@ -216,7 +217,7 @@ comes_in = record {
   lines = refl;
 }
 
-is_answered : HappensBy (mixed_kind there) heard (script.Happen (Take third)) answered (Crossed (crossing.Answer answer.Rfnm hail.flow) ∷ [])
+is_answered : Happens there heard (script.Happen (Take third)) answered (Crossed (crossing.Answer answer.Rfnm hail.flow) ∷ [])
 is_answered = record {
   outcome = Ok tt;
   gives = (Ok (Some (inbound.Answer answer.Rfnm hail.flow)), grown heard.carrier (crossing.Answer answer.Rfnm hail.flow ∷ []), (record { running = refl; shown = refl }, refl), inl (refl, refl));

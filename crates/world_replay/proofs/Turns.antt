@@ -1,5 +1,5 @@
 -- A round of a calm is its events in their order.
-use Rattle.world_replay.proofs.Common.{◌≡◌, inl, inr, ℕ, zero, suc, Bool, true, false, List, [], ◌∷◌, ◌++◌, Result, Ok, Err, refl, ap, ap₂, sym, subst, ◌∙◌, false≢true, MatchBool, Calls, Host, Calms, Does, QuietEnds, Refuses, Repeats, StepGives, TurnsOf, WorldState, stops, up_in, Event, Offer, Quiet, Take, WorldFault, Carrier, Seat, Happening, HappensOnce, InTurn, ShowsFront, gained}
+use Rattle.world_replay.proofs.Common.{◌≡◌, inl, inr, ℕ, zero, suc, Bool, true, false, List, [], ◌∷◌, ◌++◌, Result, Ok, Err, refl, ap, ap₂, sym, subst, ◌∙◌, false≢true, MatchBool, Calls, Host, Calms, Does, QuietEnds, Refuses, Repeats, TurnGives, TurnsOf, WorldState, stops, up_in, Event, Offer, Quiet, Take, WorldFault, Carrier, Seat, Happening, HappensOnce, InTurn, ShowsFront, gained}
 use Rattle.std.proofs.lemmas.List.{append-nil, append_assoc}
 use Rattle.world_replay.specs.Replay.{HappensInCalm, Happens}
 use Rattle.world_replay.specs.Rounds.{Again, EndsAgain, EndsRepeated, Repeated, RoundOf, crosses, turn_of}
@@ -8,7 +8,7 @@ use Rattle.interface.specs.declared.carrier.CarrierFault.{CarrierFault}
 use Rattle.interface.specs.declared.carrier.CarrierFault.TheVariants as fault
 use Rattle.world_replay.specs.Output.{Shown}
 use Rattle.world_replay.proofs.CalmRounds.{Gained, calm_gained, more_gained, none_gained, runs_at, steps_run}
-use Rattle.world_replay.proofs.Grown.{Grew, begins, step_grows}
+use Rattle.world_replay.proofs.Grown.{Grew, begins, turn_grows}
 use Rattle.world_replay.proofs.Replays.{gains_once, same_news}
 use Rattle.world_replay.proofs.Rounds.{is_false, is_true, when_false}
 use Rattle.world_script.specs.declared.event.WorldEvent.TheVariants as event
@@ -67,7 +67,7 @@ quiet_end : {C : Type 0} (answer : Result (Unit {0}) CarrierFault) (c : C) (old 
 quiet_end {C} (Ok done) c old new r ends = ap (λ (w : WorldState C). w.seats) ends.1
 quiet_end {C} (Err f) c old new r ends = ap (λ (w : WorldState C). w.seats) ends.1
 
-quiet_seats : {C : Type 0} (calls : Calls C) (old new : WorldState C) (r : Answer) → StepGives calls old Quiet r new
+quiet_seats : {C : Type 0} (calls : Calls C) (old new : WorldState C) (r : Answer) → TurnGives calls old Quiet r new
     → (b : Bool) → old.stopped ≡ b → new.seats ≡ old.seats
 quiet_seats {C} calls old new r step true is =
     let refused : Refuses (Carrier fault.Stopped) old r new = is_true _ _ old.stopped is step in
@@ -80,7 +80,7 @@ quiet_seats calls old new r step false is = let t = is_false _ _ old.stopped is 
 step_gained : {C : Type 0} (calls : Calls C) (e : Event) (old new : WorldState C) (lines : List Shown)
     → begins e ≡ false → HappensInCalm calls old e new lines → Gained old new lines
 step_gained calls e old new lines plain h =
-    let grew : Grew old.kept new.kept = step_grows calls e old h.outcome new plain h.gives in
+    let grew : Grew old.kept new.kept = turn_grows calls e old h.outcome new plain h.gives in
     (grew, h.lines ∙ same_news old.kept new.kept new.kept h.gains grew.gains (gains_once old.kept new.kept new.kept h.gains grew.gains refl))
 
 -- nothing crossed, and nothing more is shown
@@ -122,11 +122,11 @@ turns_of {C} calls (h ∷ hosts) old new lines (taken, first, more, takes, (sent
 -- a single quiet round
 quiet_once : {C : Type 0} (calls : Calls C) (old new : WorldState C) (lines : List Shown)
     → Repeated (HappensInCalm calls) Quiet 1 old new lines
-    → (answer : Answer) × (stops answer ≡ false) × StepGives calls old Quiet answer new × Gained old new lines
+    → (answer : Answer) × (stops answer ≡ false) × TurnGives calls old Quiet answer new × Gained old new lines
 quiet_once {C} calls old new lines (mid, first, rest, h, hs, all) =
     let last : (new ≡ mid) × (rest ≡ []) = no_more (crosses old mid) hs in
     let shows : Gained old new lines = subst (λ (ls : List Shown). Gained old new ls) (sym all) (more_gained old mid new first rest (step_gained calls Quiet old mid first refl h) (gained_no_more mid new rest last.0 last.1)) in
-    (h.outcome, h.goes_on, subst (λ (w : WorldState C). StepGives calls old Quiet h.outcome w) (sym last.0) h.gives, shows)
+    (h.outcome, h.goes_on, subst (λ (w : WorldState C). TurnGives calls old Quiet h.outcome w) (sym last.0) h.gives, shows)
   where
     no_more : (b : Bool) → MatchBool b ((new ≡ mid) × (rest ≡ [])) ((new ≡ mid) × (rest ≡ []))
         → (new ≡ mid) × (rest ≡ [])
@@ -153,9 +153,9 @@ Shows old new Holds = (lines : List Shown) × Holds lines × Gained old new line
 
 -- an event that doesn't end a calm
 stepped : {C : Type 0} (calls : Calls C) (e : Event) (old mid : WorldState C) (answer : Answer) → begins e ≡ false
-    → StepGives calls old e answer mid → stops answer ≡ false → Shows old mid (HappensInCalm calls old e mid)
+    → TurnGives calls old e answer mid → stops answer ≡ false → Shows old mid (HappensInCalm calls old e mid)
 stepped calls e old mid answer plain step on =
-    let grew : Grew old.kept mid.kept = step_grows calls e old answer mid plain step in
+    let grew : Grew old.kept mid.kept = turn_grows calls e old answer mid plain step in
     (gained grew.gains, record { outcome = answer; gives = step; goes_on = on; gains = grew.gains; lines = refl }, (grew, refl))
 
 repeated_of : {C : Type 0} (calls : Calls C) (e : Event) (times : ℕ) (old new : WorldState C) (r : Answer)

@@ -4,9 +4,10 @@ pub use Rattle.world_replay.proofs.CalmRounds
 pub use Rattle.world_replay.proofs.Driven
 pub use Rattle.world_replay.proofs.Gained
 pub use Rattle.world_replay.proofs.Grown.{at_seat, if_stopped, one_crossed}
-pub use Rattle.world_replay.proofs.MixedOnce.{happens_once, mixed_first_part, one_mixed_replay}
 pub use Rattle.world_replay.proofs.News
+pub use Rattle.world_replay.proofs.Once
 pub use Rattle.world_replay.proofs.Replays
 pub use Rattle.world_replay.proofs.Rounds.{when_false, when_true}
+pub use Rattle.world_replay.proofs.Staying.{part_same, replay_same, script_same}
 pub use Rattle.world_replay.proofs.Steady.{on_either}
 pub use Rattle.world_replay.proofs.Turns.{again_front, again_once, round_calm}

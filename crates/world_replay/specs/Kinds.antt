@@ -1,10 +1,7 @@
--- The events of a script over any kind of world, and what they show. `Replay` says the same of worlds whose hosts all run the program.
+-- The events of a script over anything that keeps a book, and what they show. `Replay` says the same of worlds.
 use Rattle.std.specs.Prelude.{◌≡◌, ℕ, ◌≤◌, true, false, List, [], ◌++◌, Option, Some, None, Result}
-use Rattle.interface.specs.Calls.{Calls}
 use Rattle.net_sim.specs.Book.{Kept}
-use Rattle.net_sim.specs.Rest.{IsAtRest}
-use Rattle.net_sim.specs.MixedWorlds.{MixedStepGives}
-use Rattle.net_sim.specs.World.{CalmGives, WorldState, stops}
+use Rattle.net_sim.specs.World.{stops}
 use Rattle.net_sim.specs.declared.event.WorldFault.{WorldFault}
 use Rattle.replay.specs.InTurn.{EndsInTurn, Happening, InTurn}
 use Rattle.world_replay.specs.Gains.{Gains, gained}
@@ -76,17 +73,3 @@ RunsOutBy kind old events new shown = EndsBy kind (StopsBy kind) old events new 
 
 abbrev pub BreaksOffBy : {S : Type 0} → Kind S → S → List WorldEvent → S → List Shown → Type 0
 BreaksOffBy kind old events new shown = EndsBy kind (MayDoBy kind) old events new shown
-
--- ---- worlds with strangers
-
-abbrev pub EventGivesAmong : {C : Type 0} → Calls C → WorldState C → WorldEvent → Result (Unit {0}) WorldFault
-    → WorldState C → Type 0
-EventGivesAmong calls old (script.Happen e) r new = MixedStepGives calls old e r new
-EventGivesAmong calls old (script.Calm rounds) r new = CalmGives calls rounds old r new
-
-abbrev pub mixed_kind : {C : Type 0} → Calls C → Kind (WorldState C)
-mixed_kind {C} calls = record {
-  kept = λ (w : WorldState C). w.kept;
-  gives = EventGivesAmong calls;
-  rests = λ (w : WorldState C). IsAtRest calls w;
-}

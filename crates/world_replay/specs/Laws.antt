@@ -5,7 +5,8 @@ use Rattle.interface.specs.Calls.{Calls}
 use Rattle.interface.specs.Host.{Host}
 use Rattle.interface.specs.declared.carrier.CarrierFault.TheVariants as fault
 use Rattle.net_sim.specs.Carriers.{shown}
-use Rattle.net_sim.specs.World.{StepGives, WorldState, stops}
+use Rattle.net_sim.specs.Steps.{StepGives}
+use Rattle.net_sim.specs.World.{TurnGives, WorldState, stops}
 use Rattle.net_sim.specs.declared.event.Event.{Event}
 use Rattle.net_sim.specs.declared.event.WorldFault.TheVariants.{Carrier}
 use Rattle.net_sim.specs.declared.event.WorldFault.{WorldFault}
@@ -17,7 +18,6 @@ use Rattle.world_script.specs.declared.event.WorldEvent.{WorldEvent}
 use Rattle.world_script.specs.declared.event.WorldEvent.TheVariants.{Calm}
 use Rattle.world_replay.specs.Apart.{IsAt, OthersStay, SameHosts}
 use Rattle.world_replay.specs.Driven.{Drive, Drives, Goes, IsDrivenIn, Round}
-use Rattle.world_replay.specs.Kinds.{ReplaysBy, RunsOutBy, mixed_kind}
 use Rattle.world_replay.specs.Output.{Crossed, Noticed, Refused, Said, Shown, notices_of, reports_of, shown_in_turn}
 use Rattle.world_replay.specs.Output.{told_in_turn}
 use Rattle.world_replay.specs.Replay.{EndsIn, Happens, HappensInCalm, IsOfCalm, Replays, StopsIn, quiet_rounds}
@@ -26,7 +26,7 @@ use Rattle.world_replay.specs.Rounds.{RoundOf}
 use Rattle.world_replay.specs.Worked.{came, said_at, told_at, went}
 
 -- A carrier whose calls leave no choice leaves none to the replay of a world over it: events have one outcome and show
--- one list of lines. What is shown where memory runs out is a prefix of that list.
+-- one list of lines, since nothing but the script says what strangers send and take. What is shown where memory runs out is a prefix of that list.
 pub record OneReplay {C : Type 0} (calls : Calls C) : Type 0 where
   pub same :
       AreSettled calls → (old new other : WorldState C) (events : List WorldEvent) (lines more : List Shown) →
@@ -36,17 +36,6 @@ pub record OneReplay {C : Type 0} (calls : Calls C) : Type 0 where
       AreSettled calls → (old new other : WorldState C) (events : List WorldEvent) (part whole : List Shown) →
       EndsIn (shown calls) (StopsIn (shown calls)) old events new part → Replays (shown calls) old events other whole →
       (rest : List Shown) × (whole ≡ part ++ rest)
-
--- The same where some hosts are strangers: nothing but the script says what these send and take.
-pub record OneMixedReplay {C : Type 0} (calls : Calls C) : Type 0 where
-  pub same :
-      AreSettled calls → (old new other : WorldState C) (events : List WorldEvent) (lines more : List Shown) →
-      ReplaysBy (mixed_kind (shown calls)) old events new lines →
-      ReplaysBy (mixed_kind (shown calls)) old events other more → (new ≡ other) × (lines ≡ more)
-  pub first_part :
-      AreSettled calls → (old new other : WorldState C) (events : List WorldEvent) (part whole : List Shown) →
-      RunsOutBy (mixed_kind (shown calls)) old events new part →
-      ReplaysBy (mixed_kind (shown calls)) old events other whole → (rest : List Shown) × (whole ≡ part ++ rest)
 
 -- A calm is its rounds, one after another: they leave the world that it leaves, and show the lines that it shows.
 pub record CalmRounds {C : Type 0} (calls : Calls C) : Type 0 where
@@ -71,17 +60,17 @@ pub record CalmRounds {C : Type 0} (calls : Calls C) : Type 0 where
       (Happens (shown calls) old (Calm 1) new lines ↔ RoundOf (HappensInCalm (shown calls)) old new lines)
 
 -- A world's carrier is the network that its hosts drive: it changes by its own calls only. Each event makes the one
--- that it names, and an offer that of the message which the host's program has to send next.
+-- that it names, and an offer that of the message which the host's program has to send next. Here are no strangers.
 pub record Driven {C : Type 0} (calls : Calls C) : Type 0 where
   -- each event of a script, be it refused or a calm, makes these calls, event by event, and what crosses by them is
   -- what the book gains
   pub event :
-      (old new : WorldState C) (e : WorldEvent) (lines : List Shown) → Happens (shown calls) old e new lines →
-      (drives : List Drive) × IsDrivenIn calls old e new drives
+      (old new : WorldState C) (e : WorldEvent) (lines : List Shown) → old.strangers ≡ [] →
+      Happens (shown calls) old e new lines → (drives : List Drive) × IsDrivenIn calls old e new drives
   -- and so does a whole replay: the carrier is what these calls make of it, and what crosses by them is what the book
   -- gains
   pub whole :
-      (old new : WorldState C) (events : List WorldEvent) (lines : List Shown) →
+      (old new : WorldState C) (events : List WorldEvent) (lines : List Shown) → old.strangers ≡ [] →
       Replays (shown calls) old events new lines →
       (drives : List Drive) × InTurn (IsDrivenIn calls) old events new drives × Drives calls old new drives
 
@@ -91,10 +80,14 @@ pub record Apart {C : Type 0} (calls : Calls C) : Type 0 where
   pub others :
       (h : Host) (e : Event) (old : WorldState C) (r : Result (Unit {0}) WorldFault) (new : WorldState C) →
       IsAt h e → stops r ≡ false → StepGives (shown calls) old e r new → OthersStay h old new
-  -- and where nothing crosses nothing but the carrier changes
+  -- so does one of a calm
+  pub turn_others :
+      (h : Host) (e : Event) (old : WorldState C) (r : Result (Unit {0}) WorldFault) (new : WorldState C) →
+      IsAt h e → stops r ≡ false → TurnGives (shown calls) old e r new → OthersStay h old new
+  -- and where nothing crosses in a calm nothing but the carrier changes
   pub silent :
       (e : Event) (old : WorldState C) (r : Result (Unit {0}) WorldFault) (new : WorldState C) →
-      IsOfCalm e → stops r ≡ false → StepGives (shown calls) old e r new →
+      IsOfCalm e → stops r ≡ false → TurnGives (shown calls) old e r new →
       new.kept.book.crossings ≡ old.kept.book.crossings → SameHosts old new
 
 -- Crossings, notices and reports in one list.

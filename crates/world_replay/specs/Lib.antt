@@ -10,5 +10,5 @@ pub mod Seen
 pub mod Steps
 pub mod Worked
 pub mod WorkedBeside
-pub mod WorkedMixed
+pub mod WorkedStrangers
 pub mod Laws

@@ -1,7 +1,8 @@
--- The events of a world's script over a carrier, whatever it is made of: the worlds of `Kinds` whose hosts all run the program.
-use Rattle.std.specs.Prelude.{◌≡◌, ℕ, zero, suc, false, List, [], ◌∷◌, Result}
+-- The events of a world's script over a carrier, whatever it is made of, and what they show.
+use Rattle.std.specs.Prelude.{◌≡◌, ℕ, zero, suc, true, false, List, [], ◌∷◌, Result}
 use Rattle.net_sim.specs.Rest.{IsAtRest}
-use Rattle.net_sim.specs.World.{WorldState, StepGives, CalmGives, stops}
+use Rattle.net_sim.specs.Steps.{StepGives}
+use Rattle.net_sim.specs.World.{WorldState, TurnGives, CalmGives, stops}
 use Rattle.net_sim.specs.declared.event.Event.{Event}
 use Rattle.net_sim.specs.declared.event.Event.TheVariants.{Offer, Quiet, Take}
 use Rattle.interface.specs.Calls.{Calls}
@@ -53,10 +54,10 @@ quiet_rounds [] = 0
 quiet_rounds (Quiet ∷ events) = suc (quiet_rounds events)
 quiet_rounds (e ∷ events) = quiet_rounds events
 
--- an event happens in a calm and shows what its world's book gained, and no refusal
+-- an event happens in a calm, in which strangers do nothing, and shows what its world's book gained, and no refusal
 pub record HappensInCalm {C : Type 0} (calls : Calls C) (old : WorldState C) (e : Event) (new : WorldState C) (shown : List Shown) : Type 0 where
   pub outcome : Result (Unit {0}) WorldFault
-  pub gives : StepGives calls old e outcome new
+  pub gives : TurnGives calls old e outcome new
   pub goes_on : stops outcome ≡ false
   pub gains : Gains old.kept new.kept
   pub lines : shown ≡ gained gains
@@ -67,18 +68,22 @@ pub record HappensInCalm {C : Type 0} (calls : Calls C) (old : WorldState C) (e 
 abbrev pub StopsIn : {C : Type 0} → Calls C → WorldState C → WorldEvent → WorldState C → List Shown → Type 0
 StopsIn calls old e new shown = StopsBy (world_kind calls) old e new shown
 
--- at an event of a calm
-abbrev pub StopsInCalm : {C : Type 0} → Calls C → WorldState C → Event → WorldState C → List Shown → Type 0
-StopsInCalm calls old e new shown = StopsIn calls old (event.Happen e) new shown
+-- at an event of a calm, which shows nothing then
+pub record StopsInCalm {C : Type 0} (calls : Calls C) (old : WorldState C) (e : Event) (new : WorldState C) (shown : List Shown) : Type 0 where
+  pub outcome : Result (Unit {0}) WorldFault
+  pub gives : TurnGives calls old e outcome new
+  pub stops : stops outcome ≡ true
+  pub gains : Gains old.kept new.kept
+  pub lines : shown ≡ gained gains
 
 -- the world processed this event, or the first rounds of a calm, and may have answered anything; how much was written of what it showed the writer
 -- only knows
 abbrev pub MayDo : {C : Type 0} → Calls C → WorldState C → WorldEvent → WorldState C → List Shown → Type 0
 MayDo calls old e new shown = MayDoBy (world_kind calls) old e new shown
 
--- the world processed this event, whatever it answered
+-- the world processed this event of a calm, whatever it answered
 abbrev pub MayStep : {C : Type 0} → Calls C → WorldState C → Event → WorldState C → Type 0
-MayStep calls old e new = (outcome : Result (Unit {0}) WorldFault) × StepGives calls old e outcome new
+MayStep calls old e new = (outcome : Result (Unit {0}) WorldFault) × TurnGives calls old e outcome new
 
 -- the events before the last one happened, the last one went as is said, and these lines were shown by then
 abbrev pub EndsIn : {C : Type 0} → Calls C → (WorldState C → WorldEvent → WorldState C → List Shown → Type 0)

@@ -4,9 +4,9 @@ use Rattle.std.specs.Prelude.{◌≡◌, List, None, Ok, Err, Result}
 use Rattle.interface.specs.Calls.{Calls, Seen, ShowsOffer, ShowsTake}
 use Rattle.interface.specs.declared.carrier.CarrierFault.TheVariants as fault
 use Rattle.interface.specs.declared.message.HostMessage.{HostMessage}
-use Rattle.net_sim.specs.MixedWorlds.{MixedRunGives, MixedStepGives}
+use Rattle.net_sim.specs.Steps.{RunGives, StepGives}
 use Rattle.net_sim.specs.Worked.{any_carrier}
-use Rattle.net_sim.specs.WorkedMixed.{beside_third}
+use Rattle.net_sim.specs.WorkedStrangers.{beside_third}
 use Rattle.net_sim.specs.World.{WorldState}
 use Rattle.net_sim.specs.declared.event.Event.{Event}
 use Rattle.net_sim.specs.declared.event.Event.TheVariants.{Out}
@@ -34,10 +34,10 @@ tired_carrier = record any_carrier { offers = λ old m r new. (r ≡ Err fault.O
 -- an event is answered so, and nothing but the carrier changes
 abbrev pub AnswersAs : Calls Seen → Event → Result (Unit {0}) WorldFault → Type 0
 AnswersAs calls e answer =
-    (r : Result (Unit {0}) WorldFault) (new : WorldState Seen) → MixedStepGives calls beside_third e r new
+    (r : Result (Unit {0}) WorldFault) (new : WorldState Seen) → StepGives calls beside_third e r new
     → (r ≡ answer) × (new ≡ record beside_third { carrier = new.carrier })
 
 -- a list of events ends so
 abbrev pub EndsAs : Calls Seen → List Event → Result (Unit {0}) WorldFault → Type 0
 EndsAs calls events answer =
-    (r : Result (Unit {0}) WorldFault) (new : WorldState Seen) → MixedRunGives calls beside_third events r new → r ≡ answer
+    (r : Result (Unit {0}) WorldFault) (new : WorldState Seen) → RunGives calls beside_third events r new → r ≡ answer

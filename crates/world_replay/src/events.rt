@@ -6,7 +6,7 @@ ghost use Rattle.net_sim.specs.Carriers.{shown};
 ghost use Rattle.net_sim.specs.Rest.{IsAtRest};
 ghost use Rattle.net_sim.specs.World.{CalmGives};
 ghost use Rattle.replay.specs.Failing.{TellsCannotWrite};
-ghost use Rattle.world_replay.specs.Kinds.{BreaksOffBy, ReplaysBy, RunsOutBy, mixed_kind, rounds_in};
+ghost use Rattle.world_replay.specs.Kinds.{BreaksOffBy, ReplaysBy, RunsOutBy, rounds_in};
 ghost use Rattle.world_replay.specs.Output.{Shown, Writes};
 ghost use Rattle.world_replay.specs.Replay.{EndsIn, HappensInCalm, MayDo, MayStep, Replays, StopsIn, StopsInCalm};
 ghost use Rattle.world_replay.specs.Replay.{world_kind};
@@ -88,19 +88,19 @@ pub fn replay_mixed_events<C: Carrier, W: Output>(
     ensures messages { SafeMessages world.new.kept.book.crossings }
 
     // each event in turn went as the world says that its calls may go, and what it showed was printed
-    ensures replayed { OnOk result (Writes detail (ReplaysBy (mixed_kind (shown C.calls)) world.old events.items world.new) (W.contents writer.old) (W.contents writer.new)) }
+    ensures replayed { OnOk result (Writes detail (Replays (shown C.calls) world.old events.items world.new) (W.contents writer.old) (W.contents writer.new)) }
 
     // memory ran out at one event: as in `replay_events`
-    ensures memory { result ≡ Err ReplayFault.OutOfMemory → Writes detail (RunsOutBy (mixed_kind (shown C.calls)) world.old events.items world.new) (W.contents writer.old) (W.contents writer.new) }
+    ensures memory { result ≡ Err ReplayFault.OutOfMemory → Writes detail (EndsIn (shown C.calls) (StopsIn (shown C.calls)) world.old events.items world.new) (W.contents writer.old) (W.contents writer.new) }
 
     // `CannotWrite` is answered where a write failed, and nowhere else
     ensures failed { TellsCannotWrite result (W.failed writer.new) }
 
     // a long calm is seen, as in `replay_events`
-    ensures seen { OnOk result (AreSeenBy (mixed_kind (shown C.calls)) detail W.contents W.flushed (world.old, writer.old) events.items (world.new, writer.new)) }
+    ensures seen { OnOk result (AreSeenBy (world_kind (shown C.calls)) detail W.contents W.flushed (world.old, writer.old) events.items (world.new, writer.new)) }
 
     // a write failed: the event had already happened, or the rounds of a calm up to that one
-    ensures cannot_write { result ≡ Err ReplayFault.CannotWrite → (lines : List Shown) × BreaksOffBy (mixed_kind (shown C.calls)) world.old events.items world.new lines }
+    ensures cannot_write { result ≡ Err ReplayFault.CannotWrite → (lines : List Shown) × EndsIn (shown C.calls) (MayDo (shown C.calls)) world.old events.items world.new lines }
 {
     let outcome = replay_in_turn(world, events, detail, writer);
     // for the proof only: by `MixedWorld::book` the world is lawful among its hosts with programs, so its messages are

@@ -1,19 +1,14 @@
 //! What the replay of a world's script promises, as laws over its definitions. The functions here do nothing: their
 //! clauses are the laws.
 
-ghost use Rattle.world_replay.specs.Laws.{Apart, CalmRounds, Driven, OneMixedReplay, OneReplay};
+ghost use Rattle.world_replay.specs.Laws.{Apart, CalmRounds, Driven, OneReplay};
 
 use interface::Carrier;
 
 /// A carrier whose calls leave no choice leaves none to the replay of a world over it: events have one outcome and show
-/// one list of lines. What is shown where memory runs out is a prefix of that list.
+/// one list of lines, whatever strangers say and take. What is shown where memory runs out is a prefix of that list.
 pub fn one_replay<C: Carrier>()
     ensures { OneReplay C.calls }
-{}
-
-/// Nor do strangers: what they say and take has one outcome and shows one list of lines, too.
-pub fn one_mixed_replay<C: Carrier>()
-    ensures { OneMixedReplay C.calls }
 {}
 
 /// A calm is its rounds, one after another: they leave the world that it leaves, and show the lines that it shows.
@@ -22,7 +17,7 @@ pub fn calm<C: Carrier>()
 {}
 
 /// A world's carrier is the network that its hosts drive: it changes by its own calls only. Each event makes the one
-/// that it names, and an offer that of the message which the host's program has to send next.
+/// that it names, and an offer that of the message which the host's program has to send next. Here are no strangers.
 pub fn driven<C: Carrier>()
     ensures { Driven C.calls }
 {}

@@ -26,8 +26,8 @@ pub mod worked_apart;
 pub mod worked_beside;
 pub mod worked_drives;
 pub mod worked_ends;
-pub mod worked_mixed;
 pub mod worked_rounds;
+pub mod worked_strangers;
 
 pub use events::{
     has_calmed, replay_events, replay_in_calm, replay_mixed_events, replay_mixed_in_calm,

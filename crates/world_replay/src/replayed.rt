@@ -2,7 +2,7 @@
 
 ghost use Rattle.std.specs.Prelude.{◌≡◌, ℕ, Ok, true};
 ghost use Rattle.net_sim.specs.Carriers.{shown};
-ghost use Rattle.world_replay.specs.Kinds.{Kind, mixed_kind};
+ghost use Rattle.world_replay.specs.Kinds.{Kind};
 ghost use Rattle.world_replay.specs.Replay.{world_kind};
 ghost use Rattle.world_replay.specs.Steps.{IsReplayable};
 
@@ -59,7 +59,7 @@ impl<C: Carrier> Replayed for World<C> {
 }
 
 impl<C: Carrier> Replayed for MixedWorld<C> {
-    ghost kind = { mixed_kind (shown C.calls) };
+    ghost kind = { world_kind (shown C.calls) };
 
     fn book(&self) -> Book<'_> {
         MixedWorld::book(self)

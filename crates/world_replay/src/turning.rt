@@ -3,7 +3,7 @@
 ghost use Rattle.std.specs.Prelude.{◌≡◌, List};
 ghost use Rattle.interface.specs.Host.{Host};
 ghost use Rattle.net_sim.specs.Carriers.{shown};
-ghost use Rattle.net_sim.specs.World.{StepGives, WorldState};
+ghost use Rattle.net_sim.specs.World.{TurnGives, WorldState};
 
 use interface::Carrier;
 use net_sim::{Book, Event, MixedWorld, World, WorldFault};
@@ -20,11 +20,11 @@ pub(crate) trait Turning<C: Carrier> {
     fn book(&self) -> Book<'_>
         ensures { result ≡ (state self.now).kept };
 
-    /// Lets one event happen, or refuses it, as in a world in which its strangers aren't there.
+    /// Lets one event happen as one of a calm, or refuses it: strangers have no turn.
     ///
     /// Errors: memory runs out, or why it is refused.
     fn turn(&mut self, event: Event) -> Result<(), WorldFault>
-        ensures gives { StepGives (shown C.calls) (state self.old) event result (state self.new) }
+        ensures gives { TurnGives (shown C.calls) (state self.old) event result (state self.new) }
         ensures strangers { strangers self.new ≡ strangers self.old };
 }
 
@@ -40,7 +40,7 @@ impl<C: Carrier> Turning<C> for World<C> {
     }
 
     fn turn(&mut self, event: Event) -> Result<(), WorldFault> {
-        self.step(event)
+        World::turn(self, &event)
     }
 }
 

@@ -10,7 +10,7 @@ ghost use Rattle.net_sim.specs.declared.event.WorldFault.TheVariants.{Carrier, H
 ghost use Rattle.sockets.specs.Worked.{first, second, third};
 ghost use Rattle.world_replay.specs.Output.{Crossed, Refused};
 ghost use Rattle.world_replay.specs.WorkedBeside.{AnswersAs, EndsAs, closed_carrier, empty_carrier, event, saying, tired_carrier};
-ghost use Rattle.world_replay.specs.WorkedMixed.{MayShow, ShowsOnly, hail};
+ghost use Rattle.world_replay.specs.WorkedStrangers.{MayShow, ShowsOnly, hail};
 
 /// What is refused of strangers, and that a replay continues after it.
 pub fn worked_asked()

@@ -71,7 +71,7 @@ raw_run calls Holds quiets (Round ∷ drives) old new lines holds only (mid, fir
 raw_network : {C : Type 0} (calls : Calls C) (Holds : C → Type 0) → Quiets calls Holds → (opening : C) (script : List WorldEvent) (w : WorldState C) (lines : List world_lines.Shown)
     → Holds opening → world.Replays (shown calls) (opening_world calls opening) script w lines → IsRawNetwork calls opening script w
 raw_network calls Holds quiets opening script w lines holds h =
-    let (drives, driven, all) = replay_drives calls script (opening_world calls opening) w lines h in
+    let (drives, driven, all) = replay_drives calls script (opening_world calls opening) w lines refl h in
     let run : RawRun calls opening drives w.carrier (crossings_of all.shown) = raw_run calls Holds quiets drives opening w.carrier all.shown holds all.calls_only all.goes in
     record {
       drives = drives;

@@ -12,7 +12,7 @@ pub use Rattle.interface.specs.declared.crossing.Crossing.{Crossing}
 pub use Rattle.ncp_control.specs.declared.command.Command.{Command}
 pub use Rattle.net_sim.specs.Book.{all_told, asked, crossed}
 pub use Rattle.net_sim.specs.Carriers.{shown}
-pub use Rattle.net_sim.specs.WorkedMixed.{beside_third}
+pub use Rattle.net_sim.specs.WorkedStrangers.{beside_third}
 pub use Rattle.net_sim.specs.World.{WorldState, opening_world, up_in}
 pub use Rattle.net_sim.specs.declared.event.Event.{Event}
 pub use Rattle.net_sim.specs.declared.event.Event.TheVariants.{Offer, Out, Quiet, Take}

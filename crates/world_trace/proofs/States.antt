@@ -169,5 +169,5 @@ module _ {C : Type 0} (calls : Calls C) (Holds : C → Type 0) (keeps : Keeps ca
   -- it holds of the carrier of each world that a replay comes to, if it holds at the opening
   pub reached_holds : (opening : C) (w : WorldState C) → IsReached calls opening w → Holds opening → Holds w.carrier
   reached_holds opening w is holds =
-      let (drives, driven, all) = replay_drives calls is.script (opening_world calls opening) w is.lines is.replays in
+      let (drives, driven, all) = replay_drives calls is.script (opening_world calls opening) w is.lines refl is.replays in
       scripts_hold is.script (opening_world calls opening) w drives is.valid is.said driven holds

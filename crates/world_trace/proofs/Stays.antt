@@ -2,7 +2,7 @@
 use Rattle.world_trace.proofs.Common.{false≢true, Host, same_host, Crossing, Notice, ServiceDeskState, ServicesState, opening_desk, line_bits, all_told, asked, crossed, shown, Event, WorldFault, Seat, ServiceSeat, accepted, NcpState, refusal, served, served_notices, next_out, offered, NcpFault, Request, seat_member, services_member, CalmEvent, AllParts}
 use Rattle.std.proofs.Common.{◌≡◌, inl, inr, ℕ, suc, ◌≤◌, Bool, true, false, ◌||◌, List, [], ◌∷◌, length, map, Option, Some, None, Result, Ok, Err, arith, ap, refl, sym, subst, ◌∙◌}
 use Rattle.interface.specs.Calls.{Calls, crossing_of, is_halt, is_memory}
-use Rattle.net_sim.specs.World.{AskGives, AtSeat, DoesOrHalts, Halts, OfferEnds, OfferGives, QuietEnds, StepGives, TakeEnds, TakeGives, TypeGives, WorldState, noticed, seat_of, seated, serviced, services_of, stops, tended, with_program, with_server, with_services, with_user, world_heard, world_moved, EventGives, turn_of}
+use Rattle.net_sim.specs.World.{AskGives, AtSeat, DoesOrHalts, Halts, OfferEnds, OfferGives, QuietEnds, TurnGives, TakeEnds, TakeGives, TypeGives, WorldState, noticed, seat_of, seated, serviced, services_of, stops, tended, with_program, with_server, with_services, with_user, world_heard, world_moved, EventGives, turn_of}
 use Rattle.net_sim.specs.declared.event.Event.TheVariants.{Ask, Offer, Out, Quiet, Server, Take, Typed, User, Net}
 use Rattle.world_replay.specs.Replay.{HappensInCalm}
 use Rattle.world_trace.specs.Steps.{AreOthers, IsAsBefore, IsStill, at_host, event_of, is_of_network, seat_place, service_place, at_one, host_of}
@@ -13,7 +13,7 @@ use Rattle.interface.specs.declared.message.HostMessage.{HostMessage}
 use Rattle.host_services.specs.Turns as services
 use Rattle.net_sim.proofs.lemmas.{memory_stops}
 use Rattle.sockets.specs.declared.request.Request.TheVariants as request
-use Rattle.world_replay.proofs.lemmas.Driven.{step_runs}
+use Rattle.world_replay.proofs.lemmas.Driven.{turn_runs}
 use Rattle.world_replay.proofs.lemmas.{at_seat, if_stopped, one_crossed}
 use Rattle.world_replay.specs.Output.{Shown}
 use Rattle.world_trace.specs.declared.calm.CalmEvent.TheVariants as calm
@@ -80,7 +80,7 @@ module _ {C : Type 0} (own : Calls C) where
   take_end G h s (Err f) c old new r nothing refused moved took on ends = refused c f (first_false (is_memory f) (is_halt f) (sym (ap stops ends.0) ∙ on)) took.0 (is_memory f, ends.1)
 
   take_ways : (G : Type 0) (h : Host) (old new : WorldState C) (r : Answer) → (new ≡ old → G) → ((n : C) → own.takes old.carrier h (Ok None) n → Carried n old new → G)
-      → ((n : C) (f : CarrierFault) → is_memory f ≡ false → own.takes old.carrier h (Err f) n → Carried n old new → G) → (Moved h old new → G) → StepGives (shown own) old (Take h) r new → stops r ≡ false → G
+      → ((n : C) (f : CarrierFault) → is_memory f ≡ false → own.takes old.carrier h (Err f) n → Carried n old new → G) → (Moved h old new → G) → TurnGives (shown own) old (Take h) r new → stops r ≡ false → G
   take_ways G h old new r same nothing refused moved step on =
       if_stopped (shown own) (EventGives (shown own) old (Take h) r new) G old r new old.stopped same (λ g.
       at_seat (shown own) (λ s. TakeGives (shown own) h s old r new) G (seat_of h old.seats) old r new same (λ s t. take_end G h s t.0 t.1 old new r nothing refused moved t.2 on t.3) g) step
@@ -96,7 +96,7 @@ module _ {C : Type 0} (own : Calls C) where
   offer_gives G h s (Some m) old new r same refused moved on gives = elim gives [ inl x ↦ halts_not G old.carrier old new r on x | inr t ↦ offer_end G h s m t.0 t.1 old new r (refused m) moved t.2 on t.3 ]
 
   offer_ways : (G : Type 0) (h : Host) (old new : WorldState C) (r : Answer) → (new ≡ old → G)
-      → ((m : HostMessage) (n : C) (f : CarrierFault) → is_memory f ≡ false → own.offers old.carrier m (Err f) n → Carried n old new → G) → (Moved h old new → G) → StepGives (shown own) old (Offer h) r new → stops r ≡ false → G
+      → ((m : HostMessage) (n : C) (f : CarrierFault) → is_memory f ≡ false → own.offers old.carrier m (Err f) n → Carried n old new → G) → (Moved h old new → G) → TurnGives (shown own) old (Offer h) r new → stops r ≡ false → G
   offer_ways G h old new r same refused moved step on =
       if_stopped (shown own) (EventGives (shown own) old (Offer h) r new) G old r new old.stopped same (λ g.
       at_seat (shown own) (λ s. OfferGives (shown own) h s (next_out s) old r new) G (seat_of h old.seats) old r new same (λ s t. offer_gives G h s (next_out s) old new r same refused moved on t) g) step
@@ -105,7 +105,7 @@ module _ {C : Type 0} (own : Calls C) where
   quiet_end G (Ok done) c old new r carried ends = carried (old.stopped, ends.1)
   quiet_end G (Err f) c old new r carried ends = carried (is_memory f, ends.1)
 
-  quiet_ways : (G : Type 0) (old new : WorldState C) (r : Answer) → (new ≡ old → G) → ((n : C) → Carried n old new → G) → StepGives (shown own) old Quiet r new → G
+  quiet_ways : (G : Type 0) (old new : WorldState C) (r : Answer) → (new ≡ old → G) → ((n : C) → Carried n old new → G) → TurnGives (shown own) old Quiet r new → G
   quiet_ways G old new r same carried step =
       if_stopped (shown own) (EventGives (shown own) old Quiet r new) G old r new old.stopped same (λ t. quiet_end G t.0 t.1 old new r (carried t.1) t.3) step
 
@@ -187,7 +187,7 @@ module _ {C : Type 0} (own : Calls C) where
   seat_others h Gives old new r k t = at_seat (shown own) Gives (AtOthers (Some h) old new) (seat_of h old.seats) old r new (same_others (Some h) old new) k t
 
   -- any event but those of the network leaves what is at other hosts
-  pub event_others : (e : Event) (old new : WorldState C) (r : Answer) → is_of_network e ≡ false → stops r ≡ false → StepGives (shown own) old e r new → AtOthers (at_one e) old new
+  pub event_others : (e : Event) (old new : WorldState C) (r : Answer) → is_of_network e ≡ false → stops r ≡ false → TurnGives (shown own) old e r new → AtOthers (at_one e) old new
   event_others (Net e) old new r not on step = absurd (false≢true (sym not))
   event_others Quiet old new r not on step = quiet_ways (AtOthers None old new) old new r (same_others None old new) (λ n c. carried_others None n old new c) step
   event_others (Take h) old new r not on step =
@@ -197,17 +197,17 @@ module _ {C : Type 0} (own : Calls C) where
       let o : Option Host = Some h in
       offer_ways (AtOthers o old new) h old new r (same_others o old new) (λ m n f s t c. carried_others o n old new c) (moved_others h old new) step on
   event_others (Ask h q) old new r not on step =
-      seat_others h (λ s. AskGives h q s (refusal s q) old r new) old new r (λ s k. ask_others h q s (refusal s q) old new r on k) (step_runs own (Ask h q) old r new on step)
+      seat_others h (λ s. AskGives h q s (refusal s q) old r new) old new r (λ s k. ask_others h q s (refusal s q) old new r on k) (turn_runs own (Ask h q) old r new on step)
   event_others (Server h listen base) old new r not on step =
       seat_others h (λ s. DoesOrHalts (with_server h listen base s old) old r new) old new r
-      (λ s k. begun_others h (services.server_begun listen base (services_of h old.services) (opening_desk h (noticed old) s)) old new r on k) (step_runs own (Server h listen base) old r new on step)
+      (λ s k. begun_others h (services.server_begun listen base (services_of h old.services) (opening_desk h (noticed old) s)) old new r on k) (turn_runs own (Server h listen base) old r new on step)
   event_others (User h peer listen mine) old new r not on step =
       seat_others h (λ s. DoesOrHalts (with_user h peer listen mine s old) old r new) old new r
-      (λ s k. begun_others h (services.user_begun peer listen mine (services_of h old.services) (opening_desk h (noticed old) s)) old new r on k) (step_runs own (User h peer listen mine) old r new on step)
+      (λ s k. begun_others h (services.user_begun peer listen mine (services_of h old.services) (opening_desk h (noticed old) s)) old new r on k) (turn_runs own (User h peer listen mine) old r new on step)
   event_others (Typed h line) old new r not on step =
       seat_others h (λ s. TypeGives h line s (services_of h old.services).typing old r new) old new r
-      (λ s k. type_others h line s (services_of h old.services).typing old new r on k) (step_runs own (Typed h line) old r new on step)
-  event_others (Out m) old new r not on step = same_others None old new (step_runs own (Out m) old r new on step).1
+      (λ s k. type_others h line s (services_of h old.services).typing old new r on k) (turn_runs own (Typed h line) old r new on step)
+  event_others (Out m) old new r not on step = same_others None old new (turn_runs own (Out m) old r new on step).1
 
   pub others_by : (e : CalmEvent) (old new : WorldState C) (lines : List Shown) → HappensInCalm (shown own) old (event_of e) new lines → AtOthers (host_of e) old new
   others_by calm.Quiet old new lines k = event_others Quiet old new k.outcome refl k.goes_on k.gives

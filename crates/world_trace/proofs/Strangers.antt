@@ -1,17 +1,19 @@
 -- Events of a world with strangers have their lines.
 use Rattle.world_trace.proofs.Common.{Appends, Calls, Event, Host, Seat, ServiceSeat, Take, Out, ReplayFault, Spot, WorldFault, ended_line, shown, AllParts, Sizes, WorldEvent, event_text, line_of, change_of, Passed}
 use Rattle.std.proofs.Common.{◌≡◌, inl, inr, ℕ, Bool, true, false, List, [], ◌∷◌, Option, Some, None, Result, Ok, Err, ap, refl, sym, subst, ◌∙◌, if◌then◌else◌}
-use Rattle.net_sim.specs.World.{WorldState, stops, Refuses, StepGives}
+use Rattle.net_sim.specs.World as world_events
+use Rattle.net_sim.specs.World.{WorldState, stops, Refuses}
 use Rattle.world_trace.specs.Steps.{is_of_network, EventEnds, at_one, passed_line}
 use Rattle.interface.specs.declared.carrier.CarrierFault.{CarrierFault}
 use Rattle.interface.specs.declared.crossing.Inbound.{Inbound}
 use Rattle.interface.specs.declared.crossing.Inbound.TheVariants as inbound
 use Rattle.interface.specs.declared.message.HostMessage.{HostMessage}
-use Rattle.net_sim.specs.MixedWorlds.{AmongGives, AskedGives, FetchEnds, MixedStepGives, OutEnds, asked_at, is_strange, strange_in}
+use Rattle.net_sim.specs.Steps.{AmongGives, FetchEnds, StepGives, OutEnds, asked_at, is_strange, strange_in}
+use Rattle.net_sim.specs.World.{NoProgram}
 use Rattle.replay.specs.declared.events.ReplayFault.TheVariants as fault
-use Rattle.world_replay.specs.Kinds.{BreaksOffBy, EventGivesAmong, HappensBy, MayDoBy, RunsOutBy, StopsBy, mixed_kind}
 use Rattle.world_replay.specs.Output.{Shown, output}
-use Rattle.world_replay.proofs.lemmas.{on_either}
+use Rattle.world_replay.specs.Replay.{EndsIn, EventGives, Happens, MayDo, StopsIn}
+use Rattle.world_replay.proofs.lemmas.{on_either, when_false}
 use Rattle.world_script.specs.declared.event.WorldEvent.TheVariants as world
 use Rattle.world_trace.specs.MixedSteps.{HasPassedMixed, MixedEnds, EventEndsAmong, mixed_reach}
 use Rattle.world_trace.specs.MixedTraces.{StopsMixed, TellsMixed}
@@ -24,24 +26,24 @@ use Rattle.world_trace.proofs.Telling.{failed_by, last_one, line_by, one_line}
 -- whichever fault ended it
 pub ended_mixed : {C : Type 0} (calls : Calls C) (old new : WorldState C) (e : Event) (f : ReplayFault)
     → (failed_by f ≡ Err fault.OutOfMemory → (lines : List Shown)
-    × RunsOutBy (mixed_kind calls) old (world.Happen e ∷ []) new lines)
+    × EndsIn calls (StopsIn calls) old (world.Happen e ∷ []) new lines)
     → (failed_by f ≡ Err fault.CannotWrite → (lines : List Shown)
-    × BreaksOffBy (mixed_kind calls) old (world.Happen e ∷ []) new lines)
+    × EndsIn calls (MayDo calls) old (world.Happen e ∷ []) new lines)
     → StopsMixed calls old e new []
 ended_mixed calls old new e fault.OutOfMemory memory failed =
     let w = memory refl in
-    let (own, stopped) = last_one (HappensBy (mixed_kind calls)) (StopsBy (mixed_kind calls)) old new (world.Happen e)
+    let (own, stopped) = last_one (Happens calls) (StopsIn calls) old new (world.Happen e)
     w.0 w.1 in
     inr (refl, (stopped.outcome, stopped.gives))
 ended_mixed calls old new e fault.CannotWrite memory failed =
     let w = failed refl in
-    let (own, may) = last_one (HappensBy (mixed_kind calls)) (MayDoBy (mixed_kind calls)) old new (world.Happen e) w.0
+    let (own, may) = last_one (Happens calls) (MayDo calls) old new (world.Happen e) w.0
     w.1 in
     inr (
       refl,
       (
         may.outcome,
-        subst (λ (x : WorldEvent). EventGivesAmong calls old x may.outcome new) may.begins
+        subst (λ (x : WorldEvent). EventGives calls old x may.outcome new) may.begins
             may.gives,
       ),
     )
@@ -117,36 +119,32 @@ module _ {C : Type 0} (own : Calls C) where
   said o m (Ok done) c old q new on (inr h) = halts_not own (AtOthers own o old new) c old new q on h
   said o m (Err e) c old q new on ends = carried o old new (ap seats_of ends.1) (ap served_in ends.1)
 
-  stepped : (e : Event) (old : WorldState C) (r : Result (Unit {0}) WorldFault) (new : WorldState C)
-      → is_of_network e ≡ false → stops r ≡ false → StepGives (shown own) old e r new
+  -- what goes as in a world without strangers, which hasn't stopped
+  goes : (e : Event) (old : WorldState C) (r : Result (Unit {0}) WorldFault) (new : WorldState C)
+      → is_of_network e ≡ false → stops r ≡ false → old.stopped ≡ false → world_events.EventGives (shown own) old e r new
       → AtOthers own (at_one e) old new
-  stepped e old r new not on gives = event_others own e old new r not on gives
-
-  asked : (e : Event) (old : WorldState C) (r : Result (Unit {0}) WorldFault) (new : WorldState C)
-      → is_of_network e ≡ false → stops r ≡ false → AskedGives (shown own) old e r new
-      → AtOthers own (at_one e) old new
-  asked e old r new not on g =
-      on_either (is_strange (strange_in old) (asked_at e)) (λ s n. unmoved (at_one e) _ old r new n)
-      (λ s t. stepped e old r new not on t) g
+  goes e old r new not on running gives = event_others own e old new r not on (when_false _ _ old.stopped running gives)
 
   any_others : (e : Event) (old : WorldState C) (r : Result (Unit {0}) WorldFault) (new : WorldState C)
-      → is_of_network e ≡ false → stops r ≡ false → AmongGives (shown own) old e r new
+      → is_of_network e ≡ false → stops r ≡ false → old.stopped ≡ false → AmongGives (shown own) old e r new
       → AtOthers own (at_one e) old new
-  any_others (Take h) old r new not on g =
+  any_others (Take h) old r new not on running g =
       on_either (strange_in old h)
       (λ s f. fetched (Some h) f.0 f.1 old r new on f.3)
-      (λ s t. stepped (Take h) old r new not on t) g
-  any_others (Out m) old r new not on g =
+      (λ s t. goes (Take h) old r new not on running t) g
+  any_others (Out m) old r new not on running g =
       on_either (strange_in old m.flow.source)
       (λ s f. said None m f.0 f.1 old r new on f.3)
-      (λ s t. stepped (Out m) old r new not on t) g
-  any_others e old r new not on g = asked e old r new not on g
+      (λ s t. goes (Out m) old r new not on running t) g
+  any_others e old r new not on running g =
+      on_either (is_strange (strange_in old) (asked_at e)) (λ s n. unmoved (at_one e) NoProgram old r new n)
+      (λ s t. goes e old r new not on running t) g
 
   reaches : (e : Event) (o : Option Host) (old : WorldState C) (r : Result (Unit {0}) WorldFault)
       (new : WorldState C)
-      → mixed_reach e ≡ reach.At o → stops r ≡ false → AmongGives (shown own) old e r new
+      → mixed_reach e ≡ reach.At o → stops r ≡ false → old.stopped ≡ false → AmongGives (shown own) old e r new
       → AtOthers own o old new
-  reaches e o old r new at on g = by (is_of_network e) refl where
+  reaches e o old r new at on running g = by (is_of_network e) refl where
     by : (b : Bool) → is_of_network e ≡ b → AtOthers own o old new
     by true is =
         absurd (let no : reach.All ≡ reach.At o =
@@ -155,12 +153,12 @@ module _ {C : Type 0} (own : Calls C) where
         let here : reach.At (at_one e) ≡ reach.At o =
         sym (ap (λ (b : Bool). if b then reach.All else reach.At (at_one e)) is) ∙ at in
         let same : at_one e ≡ o = cc in
-        subst (λ (x : Option Host). AtOthers own x old new) same (any_others e old r new is on g)
+        subst (λ (x : Option Host). AtOthers own x old new) same (any_others e old r new is on running g)
 
   -- an event leaves what it doesn't reach
   pub mixed_others : (e : Event) (o : Option Host) (old : WorldState C) (r : Result (Unit {0}) WorldFault)
       (new : WorldState C)
-      → mixed_reach e ≡ reach.At o → stops r ≡ false → MixedStepGives (shown own) old e r new
+      → mixed_reach e ≡ reach.At o → stops r ≡ false → StepGives (shown own) old e r new
       → AtOthers own o old new
   mixed_others e o old r new at on g =
-      on_either old.stopped (λ s n. unmoved o _ old r new n) (λ s t. reaches e o old r new at on t) g
+      on_either old.stopped (λ s n. unmoved o _ old r new n) (λ s t. reaches e o old r new at on s t) g

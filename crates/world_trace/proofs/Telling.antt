@@ -4,7 +4,7 @@ use Rattle.std.proofs.Common.{Bool, true, false, nat_lt, lt-ltb, ◌≡◌, ◌�
 use Rattle.std.proofs.lemmas.List.{append_assoc, append-nil, length-append, reverse-append, reverse-reverse, length-reverse}
 use Rattle.replay.proofs.lemmas.{appends_more, appends_none, last_shown, last_written, one_written}
 use Rattle.replay.specs.InTurn.{Happening, InTurn, text_of, EndsInTurn}
-use Rattle.world_replay.specs.Replay.{HappensInCalm, MayDo, StopsIn, EndsIn, EventGives, Happens, MayStep, Replays}
+use Rattle.world_replay.specs.Replay.{HappensInCalm, MayDo, StopsIn, StopsInCalm, EndsIn, EventGives, Happens, MayStep, Replays}
 use Rattle.world_trace.specs.Steps.{AreTextsOf, EventEnds, IsAsBefore, StepEnds, state_objects, AreChanged, AreChanges, HasPassed, OneEnds, Shows, ShowsInCalm, passed_line}
 use Rattle.world_trace.specs.Texts.{event_text, line_of, seat_member, services_member, opening_text, world_line}
 use Rattle.world_trace.specs.Traces.{MayTell, StopsOne, TellsInCalm, AfterOpening, IsUnchanged, TellsOne, change_of, state_of}
@@ -15,6 +15,7 @@ use Rattle.world_replay.specs.Output.{Shown, Writes, crossings_of, output}
 use Rattle.world_replay.proofs.lemmas.Gained.{HaveGains, news_gained}
 use Rattle.world_replay.proofs.lemmas.Replays.{gains_once, same_news}
 use Rattle.world_replay.specs.Gains.{Gains}
+use Rattle.net_sim.proofs.lemmas.{alone}
 use Rattle.world_script.specs.declared.event.WorldEvent.TheVariants as world
 use Rattle.world_trace.specs.declared.texts.Changes.{Changes}
 use Rattle.world_trace.proofs.Stays.{IsQuiet}
@@ -49,26 +50,26 @@ last_one {S} {E} Happens Goes old new e shown h =
     subst (λ (es : List E). InTurn Happens old es h.mid h.front) none h.before in
     (h.own, subst (λ (w : S). Goes w e new h.own) first.0 (subst (λ (x : E). Goes h.mid x new h.own) (sym is) h.goes))
 
-pub stopped : {C : Type 0} (calls : Calls C) (old new : WorldState C) (e : Event) (shown : List Shown) → EndsIn calls (StopsIn calls) old (world.Happen e ∷ []) new shown → MayTell calls old e new []
-stopped calls old new e shown h =
+pub stopped : {C : Type 0} (calls : Calls C) (old new : WorldState C) (e : Event) (shown : List Shown) → old.strangers ≡ [] → EndsIn calls (StopsIn calls) old (world.Happen e ∷ []) new shown → MayTell calls old e new []
+stopped calls old new e shown none h =
     let (own, stops) = last_one (Happens calls) (StopsIn calls) old new (world.Happen e) shown h in
-    (refl, (stops.outcome, stops.gives))
+    (refl, (stops.outcome, alone calls old stops.outcome new none e stops.gives))
 
-pub unwritten : {C : Type 0} (calls : Calls C) (old new : WorldState C) (e : Event) (shown : List Shown) → EndsIn calls (MayDo calls) old (world.Happen e ∷ []) new shown → MayTell calls old e new []
-unwritten calls old new e shown h =
+pub unwritten : {C : Type 0} (calls : Calls C) (old new : WorldState C) (e : Event) (shown : List Shown) → old.strangers ≡ [] → EndsIn calls (MayDo calls) old (world.Happen e ∷ []) new shown → MayTell calls old e new []
+unwritten calls old new e shown none h =
     let (own, may) = last_one (Happens calls) (MayDo calls) old new (world.Happen e) shown h in
-    (refl, (may.outcome, subst (λ (x : WorldEvent). EventGives calls old x may.outcome new) may.begins may.gives))
+    (refl, (may.outcome, alone calls old may.outcome new none e (subst (λ (x : WorldEvent). EventGives calls old x may.outcome new) may.begins may.gives)))
 
 abbrev pub failed_by : ReplayFault → Result (Unit {0}) ReplayFault
 failed_by f = Err f
 
 -- whichever fault ended it
-pub ended : {C : Type 0} (calls : Calls C) (old new : WorldState C) (e : Event) (f : ReplayFault) → (failed_by f ≡ Err fault.OutOfMemory → (shown : List Shown) × EndsIn calls (StopsIn calls) old (world.Happen e ∷ []) new shown)
+pub ended : {C : Type 0} (calls : Calls C) (old new : WorldState C) (e : Event) (f : ReplayFault) → old.strangers ≡ [] → (failed_by f ≡ Err fault.OutOfMemory → (shown : List Shown) × EndsIn calls (StopsIn calls) old (world.Happen e ∷ []) new shown)
     → (failed_by f ≡ Err fault.CannotWrite → (shown : List Shown) × EndsIn calls (MayDo calls) old (world.Happen e ∷ []) new shown) → StopsOne calls old e new []
-ended calls old new e fault.OutOfMemory memory failed = let w = memory refl in inr (stopped calls old new e w.0 w.1)
-ended calls old new e fault.CannotWrite memory failed = let w = failed refl in inr (unwritten calls old new e w.0 w.1)
+ended calls old new e fault.OutOfMemory none memory failed = let w = memory refl in inr (stopped calls old new e w.0 none w.1)
+ended calls old new e fault.CannotWrite none memory failed = let w = failed refl in inr (unwritten calls old new e w.0 none w.1)
 
-pub ended_in_calm : {C : Type 0} (calls : Calls C) (old new : WorldState C) (e : Event) (f : ReplayFault) (a b : Option (List ℕ)) → (failed_by f ≡ Err fault.OutOfMemory → Writes Sizes (StopsIn calls old (world.Happen e) new) a b)
+pub ended_in_calm : {C : Type 0} (calls : Calls C) (old new : WorldState C) (e : Event) (f : ReplayFault) (a b : Option (List ℕ)) → (failed_by f ≡ Err fault.OutOfMemory → Writes Sizes (StopsInCalm calls old e new) a b)
     → (failed_by f ≡ Err fault.CannotWrite → MayStep calls old e new) → MayTell calls old e new []
 ended_in_calm calls old new e fault.OutOfMemory a b memory failed = let w = (memory refl).is_shown in (refl, (w.outcome, w.gives))
 ended_in_calm calls old new e fault.CannotWrite a b memory failed = (refl, failed refl)

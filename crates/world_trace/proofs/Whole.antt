@@ -1,11 +1,10 @@
 -- The texts of programs and services say all of a world but its carrier and what is kept.
-use Rattle.world_trace.proofs.Common.{◌≡◌, List, [], ◌∷◌, Some, refl, ap, sym, ◌∙◌, All-cons, All-head, All-nil, All-tail, All, no_services, Calls, Host, opening_state, IsHostNamed, WorldEvent}
+use Rattle.world_trace.proofs.Common.{◌≡◌, List, [], ◌∷◌, Some, refl, sym, ◌∙◌, All-cons, All-head, All-nil, All-tail, All, no_services, Calls, Host, opening_state, IsHostNamed, WorldEvent}
 use Rattle.net_sim.specs.World.{WorldState, opening_seats, opening_services, opening_world}
 use Rattle.world_trace.specs.Told.{AreNumbersTold, IsListenerTold, IsPairTold, IsSeatTold, IsServed, IsServiceTold, IsWorldTold, HaveSameTexts}
 use Rattle.world_replay.specs.Output.{Shown}
-use Rattle.net_sim.proofs.lemmas.{calm_same, step_same}
-use Rattle.world_replay.specs.Replay.{Happens, Replays}
-use Rattle.world_script.specs.declared.event.WorldEvent.TheVariants as script
+use Rattle.world_replay.proofs.lemmas.{replay_same}
+use Rattle.world_replay.specs.Replay.{Replays}
 use Rattle.world_trace.proofs.Programs.{programs_once}
 use Rattle.world_trace.proofs.Running.{services_once}
 use Rattle.world_trace.proofs.Unspent.Worlds.{Runs, opening_lasts, replay_runs}
@@ -43,15 +42,7 @@ opening_told calls c all = record {
 
 -- ---- replays
 
--- a stranger stays one, and no other host becomes one
-same_strangers : {C : Type 0} (calls : Calls C) (events : List WorldEvent) (old new : WorldState C) (lines : List Shown) → Replays calls old events new lines → new.strangers ≡ old.strangers
-same_strangers calls [] old new lines h = ap (λ w. w.strangers) h.0
-same_strangers calls (e ∷ events) old new lines (mid, first, rest, one, more, all) = same_strangers calls events mid new rest more ∙ by e one where
-  by : (e : WorldEvent) → Happens calls old e mid first → mid.strangers ≡ old.strangers
-  by (script.Happen x) h = step_same calls x old h.outcome mid h.gives
-  by (script.Calm rounds) h = calm_same calls rounds old h.outcome mid h.gives
-
 pub reached_told : {C : Type 0} (calls : Calls C) (c : C) (events : List WorldEvent) (w : WorldState C) (lines : List Shown) → Replays calls (opening_world calls c) events w lines → AreNumbersTold w → IsWorldTold w
 reached_told {C} calls c events w lines h numbers =
     let runs : Runs w = replay_runs calls events (opening_world calls c) w lines (record { on = refl; last = opening_lasts calls c }) h in
-    record { strangers = same_strangers calls events (opening_world calls c) w lines h; running = runs.on; lasting = runs.last; numbers = numbers }
+    record { strangers = replay_same calls events (opening_world calls c) w lines h; running = runs.on; lasting = runs.last; numbers = numbers }

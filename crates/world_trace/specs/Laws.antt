@@ -10,9 +10,9 @@ use Rattle.interface.specs.Calls.{Calls, Seen}
 use Rattle.ncp_control.specs.declared.command.Command.TheVariants as command
 use Rattle.ncp_control.specs.declared.phase.Phase.TheVariants as phase
 use Rattle.net_sim.specs.Carriers.{shown}
-use Rattle.net_sim.specs.MixedWorlds.{MixedStepGives}
+use Rattle.net_sim.specs.Steps.{StepGives}
 use Rattle.net_sim.specs.World.{WorldState, opening_world}
-use Rattle.net_sim.specs.WorkedMixed.{beside_third}
+use Rattle.net_sim.specs.WorkedStrangers.{beside_third}
 use Rattle.net_sim.specs.declared.event.Event.{Event}
 use Rattle.net_sim.specs.declared.event.WorldFault.{WorldFault}
 use Rattle.sockets.specs.Pairs.{NcpState, opening_state}
@@ -157,9 +157,9 @@ pub record WorkedAmong {C : Type 0} (calls : Calls C) : Type 0 where
   -- where memory ran out or a write failed the event has no line, and the world is as before it or as it went
   pub memory :
       (old new : WorldState C) (e : Event) (lines : List (List ℕ)) → StopsMixed calls old e new lines →
-      (lines ≡ []) × ((new ≡ old) ⊎ ((r : Result (Unit {0}) WorldFault) × MixedStepGives calls old e r new))
+      (lines ≡ []) × ((new ≡ old) ⊎ ((r : Result (Unit {0}) WorldFault) × StepGives calls old e r new))
   pub failed :
       (old new : WorldState C) (e : Event) (lines : List (List ℕ)) → MayTellMixed calls old e new lines →
-      (lines ≡ []) × ((r : Result (Unit {0}) WorldFault) × MixedStepGives calls old e r new)
+      (lines ≡ []) × ((r : Result (Unit {0}) WorldFault) × StepGives calls old e r new)
   -- and no write fails for the line of no event
   pub nothing : (members : C → AllParts) (old new : WorldState C) → MixedTraceFails calls members old [] new → ⊥

@@ -10,8 +10,8 @@ use Rattle.trace.specs.Changes.{members_of}
 use Rattle.trace.specs.Texts.{array, object}
 use Rattle.trace.specs.declared.all_parts.AllParts.{AllParts}
 use Rattle.trace.specs.declared.element.Spot.{Spot}
-use Rattle.world_replay.specs.Kinds.{HappensBy, mixed_kind}
 use Rattle.world_replay.specs.Output.{Shown, output}
+use Rattle.world_replay.specs.Replay.{Happens}
 use Rattle.world_script.specs.declared.event.WorldEvent.{WorldEvent}
 use Rattle.world_trace.specs.MixedTraces.{MayTellMixed, MixedEndsAt, StopsMixed, TellsMixed, TellsMixedAt}
 use Rattle.world_trace.specs.MixedTraces.{stranger_text}
@@ -50,7 +50,7 @@ mixed_reach e = if is_of_network e then reach.All else reach.At (at_one e)
 
 -- it happened, and a replay prints this text for it
 abbrev pub ShowsMixed : {C : Type 0} → Calls C → WorldState C → Event → WorldState C → List ℕ → Type 0
-ShowsMixed calls old e new text = (lines : List Shown) × HappensBy (mixed_kind calls) old (world.Happen e) new lines
+ShowsMixed calls old e new text = (lines : List Shown) × Happens calls old (world.Happen e) new lines
     × (text ≡ output Sizes lines)
 
 -- and these are the texts of its line, with this many crossings in the book before it

@@ -4,7 +4,7 @@ use Rattle.std.specs.Prelude.{◌≡◌, ◌⊎◌, ℕ, List, [], ◌∷◌, �
 use Rattle.interface.specs.Calls.{Calls}
 use Rattle.interface.specs.Host.{Host}
 use Rattle.interface.specs.Printed.{host_text}
-use Rattle.net_sim.specs.MixedWorlds.{MixedStepGives}
+use Rattle.net_sim.specs.Steps.{StepGives}
 use Rattle.net_sim.specs.World.{WorldState}
 use Rattle.net_sim.specs.declared.event.Event.{Event}
 use Rattle.net_sim.specs.declared.event.WorldFault.{WorldFault}
@@ -15,8 +15,8 @@ use Rattle.trace.specs.Texts.{array, member, quoted}
 use Rattle.trace.specs.Traces.{WritesTrace, numbered_from}
 use Rattle.trace.specs.declared.all_parts.AllParts.{AllParts}
 use Rattle.trace.specs.declared.element.Spot.{Spot}
-use Rattle.world_replay.specs.Kinds.{HappensBy, mixed_kind}
 use Rattle.world_replay.specs.Output.{Shown, output}
+use Rattle.world_replay.specs.Replay.{Happens}
 use Rattle.world_script.specs.declared.event.WorldEvent.{WorldEvent}
 use Rattle.world_script.specs.declared.event.WorldEvent.TheVariants as world
 use Rattle.world_trace.specs.Texts.{event_text, line_of, opening_text}
@@ -40,14 +40,14 @@ mixed_opening members t s = opening_text t (state_of members s ++ foreign_member
 -- an event that is no calm happens as in a replay and has one line, with what of the state is other than before
 abbrev pub TellsMixed : {C : Type 0} → Calls C → (C → AllParts) → Spot → Happening (WorldState C) Event (List ℕ)
 TellsMixed calls members spot old e new lines =
-    (shown : List Shown) × (h : HappensBy (mixed_kind calls) old (world.Happen e) new shown)
+    (shown : List Shown) × (h : Happens calls old (world.Happen e) new shown)
     × (lines ≡ line_of spot 0 (event_text (world.Happen e)) h.gains.crossings (output Sizes shown)
     (change_of members old new) ∷ [])
 
 -- it is processed, whatever comes of it, and has no line
 abbrev pub MayTellMixed : {C : Type 0} → Calls C → Happening (WorldState C) Event (List ℕ)
 MayTellMixed calls old e new lines =
-    (lines ≡ []) × ((outcome : Result (Unit {0}) WorldFault) × MixedStepGives calls old e outcome new)
+    (lines ≡ []) × ((outcome : Result (Unit {0}) WorldFault) × StepGives calls old e outcome new)
 
 -- memory ran out before it happened, in it, or for its line
 abbrev pub StopsMixed : {C : Type 0} → Calls C → Happening (WorldState C) Event (List ℕ)

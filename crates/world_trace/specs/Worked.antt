@@ -7,7 +7,7 @@ use Rattle.interface.specs.Calls.{Calls, Seen}
 use Rattle.interface.specs.declared.crossing.Crossing.{Crossing}
 use Rattle.interface.specs.declared.message.HostMessage.{HostMessage}
 use Rattle.net_sim.specs.World.{WorldState}
-use Rattle.net_sim.specs.WorkedMixed.{beside_third}
+use Rattle.net_sim.specs.WorkedStrangers.{beside_third}
 use Rattle.net_sim.specs.declared.event.Event.{Event}
 use Rattle.net_sim.specs.declared.seat.Seat.{Seat}
 use Rattle.net_sim.specs.declared.seat.ServiceSeat.{ServiceSeat}

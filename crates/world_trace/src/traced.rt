@@ -178,6 +178,8 @@ fn pass<C: Inspect>(
     ensures texts { OnOk result (AreTextsOf C.inside.members world.new texts.new) }
     ensures memory { IfErr result (λ _. StopsOne (shown C.calls) world.old event world.new []) }
 {
+    // for the proof only: there are no strangers, so an event happens as one of a calm does
+    let _ = world.strangers();
     let text = spelled(alloc, &event)?;
     let crossed = world.book().crossings().len();
     let host = host_at(&event);
@@ -205,6 +207,8 @@ fn happen<C: Carrier>(
     ensures shown { IfOk result (λ text. Shows (shown C.calls) world.old (world_event.Happen event) world.new text.items) }
     ensures memory { IfErr result (λ _. StopsOne (shown C.calls) world.old event world.new []) }
 {
+    // for the proof only, as in `pass`
+    let _ = world.strangers();
     let events = vec![in alloc; WorldEvent::Happen(event)]?;
     let mut printer = Printer::new(Vec::new(alloc));
     match replay_events(world, events, Detail::Sizes, &mut printer) {

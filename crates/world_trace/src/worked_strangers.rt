@@ -32,7 +32,7 @@ pub fn worked_events()
     ensures asked { TracesOnly any_carrier (Offer third) [] (codes "refused NoProgram\n") }
     ensures program { TracesOnly any_carrier (Out (message first second 2)) [] (codes "refused HasProgram\n") }
 {
-    world_replay::worked_mixed::worked_strangers();
+    world_replay::worked_strangers::worked_strangers();
 }
 
 /// What is written of a world with strangers, and where its trace ends early.

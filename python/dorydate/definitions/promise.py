@@ -25,7 +25,7 @@ from dorydate.definitions.reach import Reach
 from dorydate.definitions.reading import term_of
 from dorydate.definitions.reasons import Reasons
 from dorydate.definitions.terms import Term
-from dorydate.definitions.values import Lambda, Value, data, listed, struct
+from dorydate.definitions.values import FALSE, Lambda, Value, data, listed, struct
 from dorydate.model.log import Book
 
 # what is promised of a book, and of one among strangers
@@ -120,13 +120,14 @@ class Judge:
     def parts(self, logged: Logged) -> Iterator[Part]:
         """The parts of what is promised of a log, one after another."""
         kept = logged.kept(*self.unsaid(logged))
-        seen: Value = Lambda(1, lambda carrier: struct({"hosts": logged.hosts}))
+        # a log is all that crossed in its network
+        seen: Value = Lambda(1, lambda carrier: struct({"hosts": logged.hosts, "log": logged.log}))
         env: Env = {"C": struct({"calls": struct({"seen": seen})})}
         if logged.book.strangers:
             now = struct({"carrier": 0, "kept": kept, "strangers": logged.strangers})
             env |= {"world": struct({"now": now})}
         else:
-            env |= {"world": struct({"now": struct({"carrier": 0})}), "result": kept}
+            env |= {"world": struct({"now": struct({"carrier": 0, "stopped": FALSE})}), "result": kept}
         for name, term, module in self.clauses(BOOK_AMONG if logged.book.strangers else BOOK):
             yield from self.below(Part(name, name, "", self.decider.expression(term, module, frozenset(env)), env))
 

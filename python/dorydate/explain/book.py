@@ -325,6 +325,7 @@ def of_message(book: Book, at: int) -> Iterator[Said]:
     yield Said("promise.contacts", filled(SAID["only rst" if is_reset else "no contact"], hosts))
     if flow.link != 0:
         yield Said("promise.told", SAID["sent"])
+        yield Said("promise.between", between(book, at))
         yield from arrived(book, at, taken, answer)
 
 
@@ -349,10 +350,24 @@ def answer_in_words(book: Book, place: int | None) -> str:
     return filled(SAID[name], answer=ANSWERS[answer.answer], line=book.crossing_line(place))
 
 
+def senders_of(book: Book, at: int) -> list[Life]:
+    """The sending lives that count the message that went out at a place."""
+    return [it for it in book.lives if not it.receives() and at in READING.counted(book.log, it)]
+
+
+def between(book: Book, at: int) -> str:
+    """Between which two lives it went."""
+    senders = senders_of(book, at)
+    pairs = [(line_of(book, it), line_of(book, other)) for it in senders for other in partners(book, it)]
+    if pairs:
+        return filled(SAID["between"], line=pairs[0][0], other=pairs[0][1])
+    return filled(SAID["to none"], line=line_of(book, senders[0])) if senders else SAID["of none"]
+
+
 def arrived(book: Book, at: int, taken: list[int], answer: int | None) -> Iterator[Said]:
     """Which sending life counts it, and whether the receiving one does that this matches."""
     log = book.log
-    senders = [it for it in book.lives if not it.receives() and at in READING.counted(log, it)]
+    senders = senders_of(book, at)
     if not senders:
         yield Said("promise.arrived.answered.sent", SAID["of none"])
         return

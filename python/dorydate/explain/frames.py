@@ -226,6 +226,10 @@ def routes_sent(view: View, number: int) -> Sentences:
     return said
 
 
+def claimed(view: View, number: int) -> Sentences:
+    return lambda: [filled(INSIDE["claims"], imp=imp_in_words(number), number=number)]
+
+
 def end_down(view: View, number: int, line: int) -> Sentences | None:
     """What is said of an end of a line that goes down."""
     imp = view.imp(number)

@@ -31,6 +31,7 @@ LOOKS: dict[str, Callable[..., Sentences | None]] = {
     "garble": frames.garbled,
     "resend": frames.sent_again,
     "route": frames.routes_sent,
+    "claim": frames.claimed,
     "enddown": frames.end_down,
     "endup": frames.end_up,
     "impdown": messages.imp_down,

@@ -21,7 +21,7 @@ from dorydate.model.firsts import Data
 from dorydate.model.names import Flow, HostName, spell_flow, spell_host
 from dorydate.model.log import BadLog, Book, read_log
 from dorydate.model.mailboxes import Holds, Mailboxes, hosts_of
-from dorydate.explain.book import partners, sent as which_was_sent
+from dorydate.explain.book import granted, partners, sent as which_was_sent
 from dorydate.explain.faults import wrong_with_text, wrong_with_word
 from dorydate.given import shown
 from dorydate.where import here
@@ -455,7 +455,10 @@ def line_of_stranger(book: Book, host: HostName) -> int:
 
 
 def why_grants(book: Book, numbers: list[int]) -> str:
+    """What was granted, and how much more passed."""
     life = life_at(book, numbers[0])
+    if not life.receives():
+        return granted(book, life)
     messages, bits = life.granted[0] - life.returned[0], life.granted[1] - life.returned[1]
     left = f"Line {numbers[0]} granted {counted(life.granted[0], 'message')} and {counted(life.granted[1], 'bit')}, and had {life.returned[0]} and {life.returned[1]} back"
     used = [(number, life_at(book, number)) for number in numbers]

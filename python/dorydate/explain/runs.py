@@ -61,12 +61,12 @@ def kept_program() -> Program | None:
 
 
 def ran(program: Program, octets: bytes, *options: str) -> Ran:
-    """A run to its end. Among strangers a calm may have billions of rounds that pass: such a run is stopped."""
+    """A run to its end. Where a stranger's IMP has no place for a message, a calm may have billions of rounds: such a run is stopped."""
     calm = LONG_CALM.search(octets)
     try:
         return program.run(octets, *options, seconds=SECONDS if calm else UNLIMITED)
     except TookTooLong as why:
-        passing = "pass while something waits for a stranger: give it fewer"
+        passing = "may pass while a stranger's IMP has no place for a message: give it fewer"
         said = f"; all rounds of `{calm[1].decode()}` {passing}" if calm else ""
         raise CannotTell(f"{why}{said}") from None
 

@@ -138,11 +138,9 @@ def wrong_with_strangers(imps: Sequence[Table], raw: bool, lines: Sequence[str])
     """The same of the strangers that IMPs name; None where none names any."""
     named = [(place, imp) for place, imp in enumerate(imps) if "foreign" in imp]
     for place, imp in named:
-        if why := "foreign raw" if raw else wrong_with_numbers(imp["foreign"], imp["hosts"]):
+        if why := "foreign raw" if raw and imp["foreign"] != [] else wrong_with_numbers(imp["foreign"], imp["hosts"]):
             holes = {"imp": imp["id"], "hosts": imp["hosts"]}
             return Fault(line_in_table(lines, "imp", place, "foreign"), filled(TOPOLOGIES[why], holes))
-    if named and not any(imp["foreign"] for _, imp in named):
-        return Fault(line_in_table(lines, "imp", named[0][0], "foreign"), TOPOLOGIES["foreign none"])
     return None
 
 

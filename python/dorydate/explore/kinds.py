@@ -20,8 +20,8 @@ from dorydate.sentences.events import OF_CARRIERS, words_of
 Pools = Mapping[str, tuple[Event, ...]]
 SWARM = (0, 1, 1, 4, 16)  # weights of a kind in a schedule that has its own
 CALMS = (1, 1, 1, 2, 2, 3, 5)
-# events of carriers that no schedule has: calms send distances, and pieces are thrown away by nobody
-LEFT_OUT = ("route", "abandon")
+# events of carriers that no schedule has: calms send distances, which are true, and pieces are thrown away by nobody
+LEFT_OUT = ("route", "claim", "abandon")
 LENGTH = 40  # events of a schedule, at most
 # kinds of events that cause lines which a pattern forbids, where nothing else causes them
 CAUSES = {

@@ -244,6 +244,10 @@ class Imp(ImpState):
             if end.is_up:
                 self.send(port, Routes(distances))
 
+    def claim(self) -> None:
+        """From now on it announces that it is at distance 0 from every IMP. Its own packets go where they went before."""
+        self.claims = True
+
     def end_down(self, port: int) -> None:
         """An end of a line goes down: its packets are in the store again."""
         if port >= len(self.ports):

@@ -84,6 +84,7 @@ class ImpState(Kept):
         self.number, self.numbers = number, numbers
         self.hosts = [HostPort() for _ in range(hosts)]
         self.ports = [Port() for _ in range(ports)]
+        self.claims = False  # it claims to be at distance 0 from every IMP
         self.store: list[Packet] = []
         self.slots: dict[Flow, tuple[int, Pieces]] = {}  # the number of a flow's message, and its pieces by place
         self.outstanding: dict[Flow, int] = {}
@@ -109,6 +110,8 @@ class ImpState(Kept):
 
     def vector(self) -> list[int]:
         """The distances to all IMPs, as it announces them to its neighbours."""
+        if self.claims:
+            return [0] * MOST_IMPS
         heard = [port.heard for port in self.ports if port.heard is not None]
         least = heard[0] if len(heard) == 1 else [min(told) for told in zip(*heard)] if heard else [INFINITE] * MOST_IMPS
         distances = [FARTHER[it] for it in least]

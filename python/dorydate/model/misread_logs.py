@@ -15,6 +15,7 @@ from dorydate.model.firsts import Data, Firsts, Placed, on_link
 from dorydate.model.log import BadLog, Book, LogReader
 from dorydate.model.mailboxes import Mailboxes
 from dorydate.model.misread_fates import JUDGES as OF_FATES
+from dorydate.model.misread_grants import JUDGES as OF_GRANTS
 from dorydate.model.misread_strangers import JUDGES as OF_STRANGERS
 from dorydate.model.misread_strangers import READERS as READERS_OF_STRANGERS
 from dorydate.model.names import Flow
@@ -566,5 +567,5 @@ def judge_with(reader: type[LogReader]) -> Judge:
 
 
 MISREADINGS: dict[str, Judge] = {str(it.__doc__): judge_with(it) for it in [*READERS, *READERS_OF_STRANGERS]} | {
-    str(it.__doc__): it() for it in [*JUDGES, *OF_STRANGERS]
+    str(it.__doc__): it() for it in [*JUDGES, *OF_GRANTS, *OF_STRANGERS]
 }

@@ -31,7 +31,7 @@ def network_is_good(network: Topology, runs: Collection[str] = ()) -> bool:
 
     A line is its two ends, and whatever further numbers its table has. A network that isn't raw can be run where the program
     runs `worlds`."""
-    carrier, raw, imps, lines, foreign = network
+    carrier, raw, imps, lines, _ = network
     numbers = [number for number, _ in imps]
     if any(len(line) != 2 for line in lines):
         return False
@@ -45,16 +45,15 @@ def network_is_good(network: Topology, runs: Collection[str] = ()) -> bool:
         and all(len({*line}) == 2 and {*line} <= {*numbers} for line in lines)
         and len({frozenset(line) for line in lines}) == len(lines)
         and all(count <= 5 for count in ends.values())
-        and (foreign is None or not raw and strangers_are_good(network))
+        and strangers_are_good(network)
     )
 
 
 def strangers_are_good(network: Topology) -> bool:
-    """Whether each IMP that names strangers names its own hosts, each once and rising, and there is one at least."""
-    hosts = dict(network.imps)
+    """Whether each IMP that names strangers names its own hosts, each once and rising. A raw network has none."""
+    hosts = {imp: 0 if network.raw else count for imp, count in network.imps}
     named = network.foreign or []
-    rising = all(numbers == sorted({*numbers} & {*range(hosts[imp])}) for imp, numbers in named)
-    return rising and network.strangers() != []
+    return all(numbers == sorted({*numbers} & {*range(hosts[imp])}) for imp, numbers in named)
 
 
 def opened_carrier(network: Topology) -> Carrier:
@@ -102,7 +101,7 @@ def expected(options: Sequence[str], network: Topology, lines: Iterable[str], ru
     events = []
     for number, line in enumerate(lines, 1):
         try:
-            events.append(read_line(line, network.raw, runs, strangers=bool(network.foreign)))
+            events.append(read_line(line, network.raw, runs, strangers=bool(network.strangers())))
         except BadLine:
             return 2, "", f"arpasim: bad script line {number}\n"
     if "--check" in words:
@@ -125,7 +124,7 @@ def session(network: Topology, lines: Sequence[str], runs: Collection[str] = EVE
     for number, line in enumerate(lines if lines[-1:] != [""] else lines[:-1], 1):
         printed, crossed = len(place.printed), len(log_of(place))
         try:
-            event = read_line(line, network.raw, runs, strangers=bool(network.foreign))
+            event = read_line(line, network.raw, runs, strangers=bool(network.strangers()))
         except BadLine:
             return 2, said, f"arpasim: bad script line {number}\n"
         if event:

@@ -184,6 +184,11 @@ class Subnet(Carrier):
         self.site(number)
         self.call(number, Imp.tell_routes)
 
+    def claim(self, number: int) -> None:
+        """An IMP claims to be at distance 0 from every IMP."""
+        self.site(number)
+        self.call(number, Imp.claim)
+
     def enddown(self, number: int, line: int) -> None:
         """An end of a line goes down."""
         self.end(number, line)

@@ -321,6 +321,7 @@ def fill_imp(imp: Imp, value: Object) -> None:
     for port, it, heard in zip(imp.ports, value["ports"], value["routes"], strict=True):
         port.is_up, port.heard = it["up"], heard if heard is None else vector_in(heard)
         fill_line(port.line, it)
+    imp.claims = not any(vector_in(value["distances"]))
     imp.store = [packet_in(it) for it in value["store"]]
     for pieces in ([packet_in(it) for it in slot] for slot in value["slots"]):
         imp.slots[pieces[0].flow] = pieces[0].number, {it.place: (it.last, it.bits) for it in pieces}

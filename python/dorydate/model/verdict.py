@@ -11,7 +11,16 @@ from collections.abc import Callable, Iterable, Sequence
 from dataclasses import replace
 from typing import TypeVar
 
-from dorydate.model.audit import PARTS, Lives, Log, is_granted, is_well_formed, match, messages_are_kept, partners_are_kept
+from dorydate.model.audit import (
+    PARTS,
+    Lives,
+    Log,
+    is_granted,
+    is_well_formed,
+    match,
+    messages_are_kept,
+    partners_are_kept,
+)
 from dorydate.model.book import Life
 from dorydate.model.fates import Fates, Over
 from dorydate.model.firsts import Firsts, Placed
@@ -199,7 +208,9 @@ class Judge:
         if not any(self.fails(part, log, lives, life) for life in lives):
             return []
         place = self.first(lives, lambda life: self.fails(part, log, lives, life))
-        return self.with_match(place, [other for other, life in enumerate(lives, 1) if match(log, lives[place - 1], life)])
+        return self.with_match(
+            place, [other for other, life in enumerate(lives, 1) if match(log, lives[place - 1], life)]
+        )
 
     def at_odds(self, log: Log, lives: Lives) -> list[int]:
         """The second life that is at odds with an earlier one, after that."""
@@ -214,7 +225,12 @@ class Judge:
 
     def fails(self, part: str, log: Log, lives: Lives, life: Life) -> bool:
         """Whether a part fails at a life."""
-        fails = {"streams": self.stream_fails, "grants": self.grant_fails, "sent": self.sent_fails, "closes": self.close_fails}
+        fails = {
+            "streams": self.stream_fails,
+            "grants": self.grant_fails,
+            "sent": self.sent_fails,
+            "closes": self.close_fails,
+        }
         return fails[part](log, lives, life)
 
     def stream_fails(self, log: Log, lives: Lives, life: Life) -> bool:
@@ -224,9 +240,20 @@ class Judge:
         return life.bits != "" and not any(match(log, life, it) and it.bits.startswith(life.bits) for it in lives)
 
     def grant_fails(self, log: Log, lives: Lives, life: Life) -> bool:
-        """A receiving life took more than it granted, or its sender sent more."""
-        passed = [life, *(it for it in lives if match(log, life, it))] if life.receives() else []
-        return not all(is_granted(life, it.messages, len(it.bits)) for it in passed)
+        """A receiving life took more than it granted, or its sender sent more; a sending one sent more than ALLs granted."""
+        if not life.receives():
+            return not self.is_within(log, life)
+        return not all(
+            is_granted(life, it.messages, len(it.bits)) for it in [life, *(it for it in lives if match(log, life, it))]
+        )
+
+    def is_within(self, log: Log, life: Life) -> bool:
+        """Whether a sending life sent no more than ALLs grant on the link that its partner's RTS names; so too where none does."""
+        links, _ = self.firsts().requested(log, life)
+        if not links:
+            return True
+        messages, bits = self.firsts().granted(log, life, links[0])
+        return life.messages <= messages and len(life.bits) <= bits
 
     def sent_fails(self, log: Log, lives: Lives, life: Life) -> bool:
         """A receiving life counts a message that isn't, with its number, one that a life counts which it matches."""

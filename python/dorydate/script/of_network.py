@@ -77,6 +77,12 @@ class Route(OfImp):
     """An IMP sends its neighbours its distances."""
 
 
+@event("claim")
+@dataclass(frozen=True)
+class Claim(OfImp):
+    """Until it stops, an IMP claims to be at distance 0 from every IMP."""
+
+
 @event("enddown")
 @dataclass(frozen=True)
 class EndDown(OfEnd):

@@ -16,6 +16,7 @@ export const TABLE = {
 "garble": ["L +|- K", "subnet", "L"],
 "resend": ["I", "subnet", "I"],
 "route": ["I", "subnet", "I"],
+"claim": ["I", "subnet", "I"],
 "enddown": ["I L", "subnet", "I"],
 "endup": ["I L", "subnet", "I"],
 "impdown": ["I", "subnet", "I"],

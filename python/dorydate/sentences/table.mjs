@@ -204,6 +204,7 @@ export const TABLE = {
 "deliver": "`deliver` lets a frame arrive. It stays on its line, so it can arrive again, until `drop` takes it away.",
 "drop": "`drop` takes a frame from its line. If it has not arrived, it is lost.",
 "garble": "`garble` lets a frame arrive with a wrong checksum. The IMP refuses it, so it is lost and not acknowledged.",
+"claim": "`claim` lets an IMP announce, until it stops, that it is at distance 0 from every IMP.",
 "deed": "What users ask of the programs of hosts, such as `contact` or `send`, is done at once at their host, and goes out at its next `offer`.",
 "proved": "Proved: the prover has checked that this program keeps its contracts.",
 "not proved": "Built without proofs: the same sources, for which the prover was not run. Nothing is wrong with it, and nothing is shown."
@@ -429,6 +430,7 @@ export const TABLE = {
 "dropped": "It is dropped: what is there of its message contradicts it, or has it.",
 "acknowledges": "It acknowledges {packets}.",
 "gone": "{Frame} is gone from line {line} from {from} to {to}.",
+"claims": "From its next distances on, until it stops (`impdown {number}`), {imp} announces that it is at distance 0 from every IMP.",
 "garbled": "{Frame} arrives at {to} on line {line} from {from} with a wrong checksum: it is refused, and nothing is acknowledged.",
 "still held": "{Imp} still holds it, not acknowledged, and sends it again at `resend {number}`.",
 "held no longer": "{Imp} holds it no longer for this line.",
@@ -590,8 +592,7 @@ export const TABLE = {
 "foreign host": "`foreign` of IMP {imp} names a host that it hasn't: it has {hosts}, numbered from 0.",
 "foreign twice": "`foreign` of IMP {imp} names a host twice.",
 "foreign order": "`foreign` of IMP {imp} is by rising number.",
-"foreign raw": "In a network with `raw = true` no host runs a program, so there are no strangers among programs: leave out `foreign`, or `raw`.",
-"foreign none": "No `foreign` names a host. Without strangers leave the key out."
+"foreign raw": "In a network with `raw = true` no host runs a program, so there are no strangers among programs: leave out `foreign`, or `raw`."
 },
 "commands": ["NOP 1", "RTS 10", "STR 10", "CLS 9", "ALL 8", "GVB 4", "RET 8", "INR 2", "INS 2", "ECO 2", "ERP 2", "ERR 12", "RST 1", "RRP 1"],
 "texts": {
@@ -669,6 +670,8 @@ export const TABLE = {
 "sent": "Its sender's user was notified of it just after it went out.",
 "of life": "It is message {number} of the sending life of line {line}.",
 "of none": "No sending life counts it.",
+"between": "It went from the life of line {line} to that of line {other}, which matches it.",
+"to none": "No receiving life matches the life of line {line}, which counts it.",
 "counted": "It is message {number} of the life of line {line}, too, which that matches.",
 "uncounted": "The life of line {line}, which that matches, doesn't count it: it is {word}.",
 "may be uncounted": "The life of line {line}, which that matches, doesn't count it, which is right only if a user of its host has closed it: a log doesn't say that.",

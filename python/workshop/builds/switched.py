@@ -25,15 +25,15 @@ from workshop.parts import ROOT, text_of
 HEAD = re.compile(r"(\s*)(?:pub(?:\(\w+\))? )?fn (\w+)")
 CLAUSE = re.compile(r"\s*(?:requires|ensures|ghost|decreases|//|#\[)")
 OF_TRAIT = re.compile(r"impl(?:<(.*?)>)? \S.* for (.*)")
-CHOOSING = """//! Which planted bug a run has.
+CHOOSING = '''//! Which planted bug a run has.
 #![tactic(auto)]
 
 /// Whether it is the one of this number.
 pub fn chosen(number: u32) -> bool {
     number == 4_294_967_295
 }
-"""
-IN_C = r"""
+'''
+IN_C = r'''
 #include <stdlib.h>
 _Bool planted_chosen(unsigned number)
 {
@@ -44,7 +44,7 @@ _Bool planted_chosen(unsigned number)
     }
     return (long)number == which;
 }
-"""
+'''
 
 
 @dataclass(frozen=True)

@@ -2,10 +2,10 @@
 
 from __future__ import annotations
 
-from collections.abc import Callable, Iterator
+from collections.abc import Callable, Collection, Iterator
 from typing import Any, Protocol, TypeVar
 
-from dorydate.model import arrived, was_sent
+from dorydate.model import arrived, between, was_sent
 from dorydate.model.audit import Lives, Log, audit, match
 from dorydate.model.book import Life
 from dorydate.model.clean import unclean
@@ -79,12 +79,14 @@ def kept_by(program: Host | None) -> Any:
     return {peer: it for peer, it in pairs.items() if it != ("closed", False, False, set(), [], [])}, {**program.listening}
 
 
-def broken_book(log: Log, lives: Lives) -> str | None:
+def broken_book(log: Log, lives: Lives, strangers: Collection[HostName] = ()) -> str | None:
     """What a book breaks by what crossed, None where it keeps all."""
     if part := audit(log, lives):
         return part
     if was_sent.broken(log, lives):
         return "messages of a connection"
+    if between.broken(log, lives, strangers) is not None:
+        return "the lives of a message"
     if next(pairs_that_differ(log, lives), None):
         return "lives that continue and are no connection"
     return None

@@ -61,7 +61,7 @@ BOOKS: list[tuple[str, list[str], int, list[str]]] = [
     ("logs/two-octets", ["12"], 1, ["line 12 of the log is no life and no message"]),
     ("logs/two-octets", ["x"], 2, ["LINE is a number, and x is none"]),
     ("logs/beside-a-stranger", [], 0, ["line 29: socket 16 of 0/1", "line 17: 48 bits from 0/3 to 0/1 on link 6"]),
-    ("logs/beside-a-stranger", ["29"], 0, ["Its own request went out in line 5", "the own request of the life of line 31"]),
+    ("logs/beside-a-stranger", ["29"], 0, ["Its own request went out in line 8", "the own request of the life of line 31"]),
     (
         "logs/beside-a-stranger",
         ["30"],

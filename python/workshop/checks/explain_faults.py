@@ -127,7 +127,6 @@ BAD_TOPOLOGIES = [
     ),
     (NAMED + b"foreign = [1, 1]\n%\n", "`foreign` of IMP 1 names a host twice."),
     (NAMED + b"foreign = [1, 0]\n%\n", "`foreign` of IMP 1 is by rising number."),
-    (NAMED + b"foreign = []\n%\n", "No `foreign` names a host."),
     (NAMED + b"foreign = 1\n%\n", "`foreign` is a list of whole numbers"),
     (
         GOOD + b"foreign = [0]\n%\n",
@@ -214,6 +213,7 @@ BROKEN_LOGS: list[BrokenLog] = [
     (16, b"24 484950", b"8 48", "broken streams line 14", "what wasn't handed over in line 16: what was sent has 16 bits, and what was handed over has 8."),
     (14, b"0/1 16 3", b"0/1 18 3", "broken lives line 14\nbroken streams line 13\nbroken sent line 13", "It took 16 bits, and no life matches it. That would be one of host 0/2, socket 33"),
     (13, b"100", b"15", "broken grants lines 13 14", "at most 1 with 15 bits may pass. But line 13 took 1 message with 16 bits and line 14 sent 1 message with 16 bits."),
+    (8, b"0405000100000064", b"040500010000000F", "broken run line 8\nbroken messages line 8\nbroken grants line 14", "It sent 1 message and 16 bits, more than the 1 message and 15 bits that the ALLs which its host took grant on link 5."),
     (13, b"0 0 open", b"0 85 open", "broken grants lines 13 14", "had 0 and 85 back: at most 1 with 15 bits may pass"),
     (13, b"open", b"ended", "broken closes lines 13 14\n" + SAFE_13, "all that was handed over in line 16, but octet 3 of what was handed over, 50, was not taken: what was taken has 16 bits, and what was handed over has 24."),
     (13, b"1 16 1 100 0 0 open 4849", b"1 8 1 100 0 0 ended 48", "broken lives line 13\nbroken closes lines 13 14\n" + FATES_13, "all that line 14 sent, but octet 2 of what was sent, 49, was not taken: what was taken has 8 bits, and what was sent has 16."),

@@ -38,6 +38,7 @@ INSIDES = [
     ("an-rfnm-is-lost", 26, "No route is left for the RFNM for message 0 of flow 0/1 0/2 9: dropped."),
     ("a-frame-is-garbled", 17, "Message 0 of flow 0/1 0/2 9 arrives at IMP 2 on line 0 from IMP 1 with a wrong checksum: it is refused, and nothing is acknowledged."),
     ("a-frame-is-garbled", 17, "IMP 1 still holds it, not acknowledged, and sends it again at `resend 1`."),
+    ("harvard-tells-lies", 251, "From its next distances on, until it stops (`impdown 9`), IMP 9 announces that it is at distance 0 from every IMP."),
     ("a-repeat-is-taken-once", 18, "It came before, so it is only acknowledged again."),
     ("abandon-frees-a-slot", 15, "The message is not whole yet: a slot holds 1 of its pieces."),
     ("an-imp-comes-up-when-its-past-is-gone", 22, "IMP 2 still keeps the last numbers of flows from IMP 1 (`forget 2 1`). The next event to clear it: `forget 2 1`."),

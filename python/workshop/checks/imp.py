@@ -150,6 +150,8 @@ class Chance:
     def seldom_call(self) -> str:
         """One of the other calls."""
         imp = self.imp
+        if self.random.random() < 0.02:
+            return "claim"
         names = "end_up host_up resend route give_up ask forget abandon".split()
         name = self.random.choice(names + 2 * ["end_down", "host_down", "end_up", "host_up"] * self.stops)
         if name in ("resend", "route"):

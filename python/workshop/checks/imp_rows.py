@@ -122,6 +122,8 @@ class ImpRows:
                 imp.resend()
             case "route", []:
                 imp.tell_routes()
+            case "claim", []:
+                imp.claim()
             case _ if name in of_flow:
                 of_flow[name](read_flow(words))
             case _ if name in of_number:

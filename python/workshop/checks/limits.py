@@ -335,7 +335,11 @@ def write(names: list[str]) -> int:
     known = kept() if os.path.isfile(KEPT) else {}
     known |= by_models(names)
     with open(KEPT, "w", encoding="utf-8") as file:
-        file.write("{\n" + ",\n".join(f"  {json.dumps(name)}: {json.dumps(known[name])}" for name in NAMES if name in known) + "\n}\n")
+        file.write(
+            "{\n"
+            + ",\n".join(f"  {json.dumps(name)}: {json.dumps(known[name])}" for name in NAMES if name in known)
+            + "\n}\n"
+        )
     print(f"check limits: {len(names)} ends are kept")
     return 0
 
@@ -359,7 +363,9 @@ def main() -> int:
         return write(names)
     if asked.planted:
         ends = kept()
-        return missed("limits", PLANTED, names, lambda program, name, env: by_program(program, name, env) != ends[name])
+        return missed(
+            "limits", PLANTED, names, lambda program, name, env: by_program(program, name, env) != ends[name]
+        )
     program = any_program()
     if program is None:
         print("check limits: there is no program of these sources")

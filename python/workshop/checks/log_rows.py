@@ -13,20 +13,22 @@ from workshop.checks import stranger_rows
 from workshop.parts import ROOT, text_of
 
 PAGE, OLD = (text_of(f"{ROOT}/{it}") for it in ("docs/audit.md", "logs/an-old-message"))
-# the log of that page without its ALL, of which the audit reads nothing
-OF_PAGE = text_of(f"{ROOT}/logs/two-octets").splitlines(keepends=True)
-SHORT = "".join(OF_PAGE[:6] + OF_PAGE[9:])
+SHORT = text_of(f"{ROOT}/logs/two-octets")
 
-# ---- the short log with a text changed, and the verdict. Its crossings are the lines 1 to 9, its lives 10 and 11, its lists 12 and 13
+# ---- the short log with a text changed, and the verdict. Its crossings are the lines 1 to 12, its lives 13 and 14, its lists 15 and 16
 
-RECEIVER, SENDER = SHORT.splitlines()[9:11]
+RECEIVER, SENDER = SHORT.splitlines()[12:14]
 LIST, LISTS, LISTS_TURNED = "handed 0 -\n", "handed 0 -\nhanded 24 484950\n", "handed 24 484950\nhanded 0 -\n"
 BOTH = f"{RECEIVER}\n{SENDER}\n{LISTS}"
-ENDED, NONE_TAKEN, NONE_SENT = RECEIVER.replace("open", "ended"), RECEIVER.replace("1 16 1", "0 0 1").replace("4849", "-"), SENDER.replace("1 16 0", "0 0 0").replace("4849", "-")
+ENDED, NONE_TAKEN, NONE_SENT = (
+    RECEIVER.replace("open", "ended"),
+    RECEIVER.replace("1 16 1", "0 0 1").replace("4849", "-"),
+    SENDER.replace("1 16 0", "0 0 0").replace("4849", "-"),
+)
 CLOSED = SENDER.replace("open", "closed")
 NONE_ENDED = NONE_TAKEN.replace("open", "ended")
 ALL_TAKEN = "handed 0 -\nhanded 16 4849\n"  # the lists where no more was handed over than was taken
-ASKS, OFFERS, DATA = ("".join(f"{line}\n" for line in SHORT.splitlines()[at : at + 3]) for at in (0, 3, 6))
+ASKS, OFFERS, GRANTS, DATA = ("".join(f"{line}\n" for line in SHORT.splitlines()[at : at + 3]) for at in (0, 3, 6, 9))
 MORE = DATA.replace("56 00080002004849", "48 000800010051")
 
 
@@ -37,26 +39,30 @@ def asks(commands: str) -> str:
 
 
 LINE_FEED = "\n"
+GRANT, NOT_GRANTED = "0405000100000064", "broken grants line 14"
+TURNED = BOTH.replace("33 0 4", "33 3 1").replace("16 3 1", "16 0 4")  # where the sender asks first
+LATER = BOTH.replace("33 0 4", "33 6 1").replace("16 3 1", "16 0 7")  # and its ALL comes before its partner asks
 RTS, RTS_6 = "01000000100000002105", "01000000100000002106"
 REQUESTS = [  # what host 0/1 says in the place of its request, and the verdict
     (RTS, "kept"),
     (f"00{RTS}", "kept"),
     (RTS + RTS_6, "kept"),
-    (RTS_6 + RTS, "broken lives line 10"),
+    (RTS_6 + RTS, f"broken lives line 13\n{NOT_GRANTED}"),
     (f"01000000100000002101{RTS}", "kept"),
-    (RTS_6, "broken lives line 10"),
-    ("01000000100000002120", "broken lives line 10"),
-    ("02000000100000002105", "broken lives line 10"),
-    (RTS.replace("10", "12"), "broken lives line 10"),
-    (f"0E{RTS}", "broken lives line 10"),
-    (f"{RTS[:-2]}", "broken lives line 10"),
+    (RTS_6, f"broken lives line 13\n{NOT_GRANTED}"),
+    ("01000000100000002120", "broken lives line 13"),
+    ("02000000100000002105", "broken lives line 13"),
+    (RTS.replace("10", "12"), "broken lives line 13"),
+    (f"0E{RTS}", "broken lives line 13"),
+    (f"{RTS[:-2]}", "broken lives line 13"),
 ]
 
 
 def again(request: str, crossed: str, took: str, sent: str) -> str:
     """The data, then the requests of a second connection of the same sockets, what crossed then, and all lives."""
-    lives = f"{RECEIVER}\n{SENDER}\nlife 0/1 16 0/2 33 9 13 receive {took}\nlife 0/2 33 0/1 16 12 10 send {sent}\n"
-    return f"{DATA}{asks(request)}{OFFERS}{crossed}{lives}{LISTS}handed 0 -\nhanded 8 51\n"
+    lives = f"{RECEIVER}\n{SENDER}\nlife 0/1 16 0/2 33 12 16 receive {took}\nlife 0/2 33 0/1 16 15 13 send {sent}\n"
+    grants = GRANTS.replace("0405", f"04{request[-2:]}")
+    return f"{DATA}{asks(request)}{OFFERS}{grants}{crossed}{lives}{LISTS}handed 0 -\nhanded 8 51\n"
 
 
 def control(source: str, destination: str, commands: str) -> str:
@@ -73,7 +79,7 @@ def fated(
     of them is named."""
     first = before.count(LINE_FEED)
     second = first + 3 + between.count(LINE_FEED)
-    crossings = f"{before}{ASKS}{between}{offers}{DATA}{crossed}"
+    crossings = f"{before}{ASKS}{between}{offers}{GRANTS}{DATA}{crossed}"
     lives = [
         f"life 0/1 16 0/2 33 {first} {second + 1} receive 1 16 1 100 0 0 {receiver} 4849",
         f"life 0/2 33 0/1 16 {second} {first + 1} send 1 16 0 0 0 0 {sender} 4849",
@@ -160,7 +166,7 @@ FATES = [
 def late(crossed: str, receiver: str, sender: str, named: int, sent: str = "") -> tuple[str, str]:
     """The short log, where this crosses before its data, its lives with these fates, and which is the first that counts
     them too late; and what is said of the messages that were sent."""
-    crossings = f"{ASKS}{OFFERS}{crossed}{DATA}"
+    crossings = f"{ASKS}{OFFERS}{GRANTS}{crossed}{DATA}"
     lives = f"{RECEIVER.replace('open', receiver)}\n{SENDER.replace('open', sender)}\n"
     wanted = f"broken lives line {crossings.count(LINE_FEED) + named}" if named else "kept"
     return f"{crossings}{lives}{ALL_TAKEN}end\n", wanted + sent
@@ -169,7 +175,7 @@ def late(crossed: str, receiver: str, sender: str, named: int, sent: str = "") -
 def contacted(words: str, named: int, between: str = "", peer: str = "0/2", after: str = "") -> tuple[str, str]:
     """The short log, then a second connection of host 0/1, with 0/2 or another, and what crosses after that, its four
     lives with these fates, and which of them is named."""
-    first = f"{ASKS}{OFFERS}{DATA}{between}"
+    first = f"{ASKS}{OFFERS}{GRANTS}{DATA}{between}"
     crossings = first + f"{asks(RTS_6)}{OFFERS}".replace("0/2", peer) + after
     at = first.count(LINE_FEED)
     lives = [
@@ -234,7 +240,7 @@ LATE = [
     late("down 0/1\nup 0/1\n", "stopped", "open", 1),
     late(RST + RRP_BACK, "reset", "reset", 1),
     late(OWN_FAILS, "reset", "open", 1),
-    late(FAILS, "open", "reset", 2, "\nbroken sent lines 12 13"),  # the one that failed is the sender's first
+    late(FAILS, "open", "reset", 2, "\nbroken sent lines 15 16"),  # the one that failed is the sender's first
     late(BOTH_CLS, "ended", "closed", 1),
     # after one CLS it may count more, and after what happens to others
     late(control("0/2", "0/1", CLS_BACK), "open", "open", 0),
@@ -245,114 +251,196 @@ LATE = [
 
 NOTHING, ONE = ("0 0 1 100 0 0 open -", "0 0 0 0 0 0 open -"), ("1 8 1 100 0 0 open 51", "1 8 0 0 0 0 open 51")
 ON_6 = MORE.replace("0/1 5", "0/1 6")
-FATES_10, FATES_11 = "broken fates line 10", "broken fates line 11"
+FATES_13, FATES_14 = "broken fates line 13", "broken fates line 14"
 RFNM = "answer rfnm 0/2 0/1 5\n"
-SAFE_10, SAFE_11 = f"{FATES_10}\nsafe", f"{FATES_11}\nsafe"
-CLOSES = "broken closes lines 10 11\n" + FATES_10
-ALONE = "broken streams line 10\nbroken sent line 10"  # of a life that took something, and matches none
-BAD_10, BAD_11 = (f"broken lives line {line}\nmalformed line {line}" for line in (10, 11))
+SAFE_13, SAFE_14 = f"{FATES_13}\nsafe", f"{FATES_14}\nsafe"
+CLOSES = "broken closes lines 13 14\n" + FATES_13
+ALONE = "broken streams line 13\nbroken sent line 13"  # of a life that took something, and matches none
+BAD_13, BAD_14 = (f"broken lives line {line}\nmalformed line {line}" for line in (13, 14))
 VERDICTS = [
     ("", "", "kept"),
     # what isn't promised
     ("484950\n", "4849FF\n", "kept"),
     ("1 100 0 0 open", "2 999 0 0 open", "kept"),
-    ("1 16 1 100 0 0 open 4849\n", "1 7 1 100 0 0 open 48\n", "broken lives line 10"),
+    ("1 16 1 100 0 0 open 4849\n", "1 7 1 100 0 0 open 48\n", "broken lives line 13"),
     ("receive 1 16 1 100 0 0 open 4849", "receive 0 0 1 16 0 0 open -", "kept"),
     (LIST, "handed 8 FF\n", "kept"),
     # the run of the mailboxes
-    ("answer rfnm 0/2 0/1 5", "answer dead 0/2 0/1 5", "broken run line 9\n" + FATES_11),
-    ("answer rfnm 0/2 0/1 5", "answer nottaken 0/2 0/1 5", "broken run line 9\n" + FATES_11),
-    ("answer rfnm 0/2 0/1 5", "answer incomplete 0/2 0/1 5", SAFE_11),
-    ("answer rfnm 0/2 0/1 5", "out 0/2 0/1 5 0 -", "broken run line 9"),
-    ("answer rfnm 0/2 0/1 5", "down 0/2", SAFE_11),
-    ("answer rfnm 0/2 0/1 5\n", "down 0/2\nanswer rfnm 0/2 0/1 5\n", "broken run line 10\nbroken fates line 12"),
-    ("answer rfnm 0/2 0/1 5\n", f"down 0/2\nup 0/2\n{RFNM}", "broken run line 11\nbroken fates line 13"),
+    ("answer rfnm 0/2 0/1 5", "answer dead 0/2 0/1 5", "broken run line 12\n" + FATES_14),
+    ("answer rfnm 0/2 0/1 5", "answer nottaken 0/2 0/1 5", "broken run line 12\n" + FATES_14),
+    ("answer rfnm 0/2 0/1 5", "answer incomplete 0/2 0/1 5", SAFE_14),
+    ("answer rfnm 0/2 0/1 5", "out 0/2 0/1 5 0 -", "broken run line 12"),
+    ("answer rfnm 0/2 0/1 5", "down 0/2", SAFE_14),
+    ("answer rfnm 0/2 0/1 5\n", "down 0/2\nanswer rfnm 0/2 0/1 5\n", "broken run line 13\nbroken fates line 15"),
+    ("answer rfnm 0/2 0/1 5\n", f"down 0/2\nup 0/2\n{RFNM}", "broken run line 14\nbroken fates line 16"),
     # lives of the messages that crossed: none crossed, others did, not all of one, and none but the second counts
-    (DATA, "", "broken lives line 7"),
-    (DATA, DATA.replace("4849", "4142"), "broken lives line 10"),
-    ("receive 1 16 1 100 0 0 open 4849", "receive 1 8 1 100 0 0 open 48", "broken lives line 10"),
-    (DATA, MORE + DATA, "broken lives line 13"),
+    (DATA, "", "broken lives line 10"),
+    (DATA, DATA.replace("4849", "4142"), "broken lives line 13"),
+    ("receive 1 16 1 100 0 0 open 4849", "receive 1 8 1 100 0 0 open 48", "broken lives line 13"),
+    (DATA, MORE + DATA, "broken lives line 16"),
     (DATA, DATA + MORE, "kept"),
     *((ASKS, asks(commands), wanted) for commands, wanted in REQUESTS),
-    (OFFERS, OFFERS.replace("1008", "1000"), "broken lives line 10"),
+    (OFFERS, OFFERS.replace("1008", "1000"), "broken lives line 13"),
     # sockets that are used again: a life has the messages of its own link, after its own requests
     (DATA + BOTH, again(RTS_6, "", *NOTHING), "kept"),
     (DATA + BOTH, again(RTS_6, ON_6, *ONE), "kept"),
     (DATA + BOTH, again(RTS, MORE, *ONE), "kept"),
-    (DATA + BOTH, again(RTS_6, MORE, *ONE), "broken lives line 21"),
-    (DATA + BOTH, again(RTS, "", "1 16 1 100 0 0 open 4849", "1 16 0 0 0 0 open 4849"), "broken lives line 18\nbroken streams line 19"),
+    (DATA + BOTH, again(RTS_6, MORE, *ONE), "broken lives line 27"),
+    (
+        DATA + BOTH,
+        again(RTS, "", "1 16 1 100 0 0 open 4849", "1 16 0 0 0 0 open 4849"),
+        "broken lives line 24\nbroken streams line 25",
+    ),
     # messages
-    ("answer rfnm 0/2 0/1 5", "in 0/2 0/1 5 56 00080002004849", "broken run line 9\nbroken messages line 9"),
-    ("in 0/2 0/1 5 56 00080002004849", "in 0/2 0/1 5 56 00080002004848", "broken run line 8\nbroken lives line 10\nbroken messages line 8"),
-    ("in 0/2 0/1 5 56 00080002004849", "in 0/2 0/1 6 56 00080002004849", "broken run line 8\nbroken lives line 10\nbroken messages line 8"),
-    ("in 0/2 0/1 5 56 00080002004849\n", "", "broken run line 8\nbroken lives line 9\nbroken messages line 8"),
-    ("answer rfnm 0/2 0/1 5", "answer rfnm 0/2 0/1 4", "broken run line 9\nbroken messages line 9"),
+    ("answer rfnm 0/2 0/1 5", "in 0/2 0/1 5 56 00080002004849", "broken run line 12\nbroken messages line 12"),
+    (
+        "in 0/2 0/1 5 56 00080002004849",
+        "in 0/2 0/1 5 56 00080002004848",
+        "broken run line 11\nbroken lives line 13\nbroken messages line 11",
+    ),
+    (
+        "in 0/2 0/1 5 56 00080002004849",
+        "in 0/2 0/1 6 56 00080002004849",
+        "broken run line 11\nbroken lives line 13\nbroken messages line 11",
+    ),
+    ("in 0/2 0/1 5 56 00080002004849\n", "", "broken run line 11\nbroken lives line 12\nbroken messages line 11"),
+    ("answer rfnm 0/2 0/1 5", "answer rfnm 0/2 0/1 4", "broken run line 12\nbroken messages line 12"),
     # stamps: one that names no such message, and which life comes first
-    *(("16 0/2 33 0 4", f"16 0/2 33 {stamps}", BAD_10) for stamps in ("7 4", "1 4", "0 3", "0 9")),
-    *(("33 0/1 16 3 1", f"33 0/1 16 {stamps}", BAD_11) for stamps in ("3 7", "18446744073709551615 1")),
-    ("life 0/2 33 0/1", "life 0/3 33 0/1", BAD_11),
-    ("0/2 0/1 0", "0/2 0/1 1", "broken run line 5\nbroken lives line 11\nmalformed line 10\nbroken messages line 5"),
+    *(("16 0/2 33 0 4", f"16 0/2 33 {stamps}", BAD_13) for stamps in ("7 4", "1 4", "0 3", "0 12")),
+    *(("33 0/1 16 3 1", f"33 0/1 16 {stamps}", BAD_14) for stamps in ("3 10", "18446744073709551615 1")),
+    ("life 0/2 33 0/1", "life 0/3 33 0/1", BAD_14),
+    ("0/2 0/1 0", "0/2 0/1 1", "broken run line 5\nbroken lives line 14\nmalformed line 13\nbroken messages line 5"),
     # numbers of lives and lists
-    ("handed 24 484950\n", "", "malformed line 11"),
-    (LISTS, "", "malformed line 10"),
-    (LIST, LIST + LIST, "malformed line 14"),
-    (SENDER + "\n", "", "malformed line 12"),
-    (RECEIVER + "\n" + SENDER + "\n", "", "malformed line 10"),
+    ("handed 24 484950\n", "", "malformed line 14"),
+    (LISTS, "", "malformed line 13"),
+    (LIST, LIST + LIST, "malformed line 17"),
+    (SENDER + "\n", "", "malformed line 15"),
+    (RECEIVER + "\n" + SENDER + "\n", "", "malformed line 13"),
     # partners
-    (f"{SENDER}\n{LIST}", f"{SENDER}\n{RECEIVER}\n{LIST}{LIST}", "broken partners lines 10 12\nbroken streams line 11"),
-    (f"{SENDER}\n{LISTS}", f"{SENDER}\n{SENDER}\n{LISTS}handed 24 484950\n", "broken partners lines 11 12"),
-    ("33 0/1 16 3 1", "33 0/1 18 3 1", f"broken lives line 11\n{ALONE}"),
+    (f"{SENDER}\n{LIST}", f"{SENDER}\n{RECEIVER}\n{LIST}{LIST}", "broken partners lines 13 15\nbroken streams line 14"),
+    (f"{SENDER}\n{LISTS}", f"{SENDER}\n{SENDER}\n{LISTS}handed 24 484950\n", "broken partners lines 14 15"),
+    ("33 0/1 16 3 1", "33 0/1 18 3 1", f"broken lives line 14\n{ALONE}"),
     # streams
-    ("open 4849\nlife", "open 4848\nlife", "broken lives line 10\nbroken streams lines 10 11"),
-    ("receive 1 16 1 100 0 0 open 4849", "receive 1 17 1 100 0 0 open 484900", "broken lives line 10\nbroken streams lines 10 11"),
-    ("handed 24 484950", "handed 15 4848", "broken streams line 11"),
-    ("handed 24 484950", "handed 0 -", "broken streams line 11"),
-    ("send 1 16 0 0 0 0 open 4849", "send 1 17 0 0 0 0 open 484980", "broken lives line 11\nbroken streams line 11"),
+    ("open 4849\nlife", "open 4848\nlife", "broken lives line 13\nbroken streams lines 13 14"),
+    (
+        "receive 1 16 1 100 0 0 open 4849",
+        "receive 1 17 1 100 0 0 open 484900",
+        "broken lives line 13\nbroken streams lines 13 14",
+    ),
+    ("handed 24 484950", "handed 15 4848", "broken streams line 14"),
+    ("handed 24 484950", "handed 0 -", "broken streams line 14"),
+    ("send 1 16 0 0 0 0 open 4849", "send 1 17 0 0 0 0 open 484980", "broken lives line 14\nbroken streams line 14"),
     (f"{SENDER}\n{LISTS}", LIST, ALONE),
     # grants
-    ("receive 1 16 1 100", "receive 1 16 1 15", "broken grants lines 10 11"),
-    ("receive 1 16 1 100", "receive 1 16 0 100", "broken grants lines 10 11"),
-    ("1 100 0 0", "1 100 0 85", "broken grants lines 10 11"),
-    ("1 100 0 0", "1 100 1 0", "broken grants lines 10 11"),
+    ("receive 1 16 1 100", "receive 1 16 1 15", "broken grants lines 13 14"),
+    ("receive 1 16 1 100", "receive 1 16 0 100", "broken grants lines 13 14"),
+    ("1 100 0 0", "1 100 0 85", "broken grants lines 13 14"),
+    ("1 100 0 0", "1 100 1 0", "broken grants lines 13 14"),
     ("1 100 0 0", "2 100 1 84", "kept"),
-    ("receive 1 16 1 100", "receive 2 16 1 100", "broken lives line 10\nbroken grants lines 10 11"),
-    ("send 1 16", "send 2 16", "broken lives line 11\nbroken grants lines 10 11"),
+    ("receive 1 16 1 100", "receive 2 16 1 100", "broken lives line 13\nbroken grants lines 13 14"),
+    ("send 1 16", "send 2 16", "broken lives line 14\nbroken grants lines 13 14"),
+    # what was sent is within the ALLs that came from the peer after the own request, with the partner's or after it
+    (GRANTS, "", "broken grants line 11"),
+    (GRANTS, control("0/1", "0/2", "0406000100000064"), NOT_GRANTED),
+    (GRANTS, control("0/1", "0/2", "040500010000000F"), NOT_GRANTED),
+    (GRANTS, control("0/1", "0/2", "0405000000000064"), NOT_GRANTED),
+    (GRANTS, control("0/1", "0/2", "0405000100000010"), "kept"),
+    (GRANTS, control("0/1", "0/2", "04050001000000080405000000000008"), "kept"),
+    (GRANTS, control("0/1", "0/2", "0405000000000010") + control("0/1", "0/2", "0405000100000000"), "kept"),
+    (GRANTS, GRANTS.splitlines(keepends=True)[0], "broken grants line 12"),
+    (GRANTS, control("0/3", "0/2", GRANT), NOT_GRANTED),
+    (GRANTS, control("0/2", "0/1", GRANT), NOT_GRANTED),
+    (GRANTS, f"{GRANTS}{control('0/2', '0/1', '0605000100000064')}", "kept"),
+    (f"{GRANTS}{DATA}", f"{DATA}{GRANTS}", "kept"),
+    (f"{ASKS}{OFFERS}{GRANTS}", f"{asks(RTS + GRANT)}{OFFERS}", "broken grants line 11"),
+    (f"{ASKS}{OFFERS}{GRANTS}{DATA}{BOTH}", f"{OFFERS}{asks(RTS + GRANT)}{DATA}{TURNED}", "kept"),
+    (f"{ASKS}{OFFERS}{GRANTS}{DATA}{BOTH}", f"{OFFERS}{GRANTS}{ASKS}{DATA}{LATER}", NOT_GRANTED),
     # closes: a receiving life that its partner ended took all that was sent, and all that was handed over there
     (BOTH, f"{ENDED}\n{SENDER}\n{LISTS}", f"{CLOSES}\nsafe"),
-    (BOTH, f"{ENDED}\n{SENDER}\n{ALL_TAKEN}", SAFE_10),
-    (BOTH, f"{ENDED}\n{SENDER.replace('open', 'ended')}\n{ALL_TAKEN}", SAFE_10),
-    *((BOTH, f"{RECEIVER.replace('open', word)}\n{SENDER.replace('open', 'ended')}\n{LISTS}", f"broken fates line {line}\nsafe") for word, line in (("closed", 10), ("reset", 11), ("stopped", 10))),
-    *((BOTH, f"{NONE_TAKEN.replace('open', word)}\n{SENDER}\n{LISTS}", wanted) for word, wanted in (("open", "kept"), ("closed", SAFE_10), ("reset", "kept"), ("stopped", SAFE_10))),
+    (BOTH, f"{ENDED}\n{SENDER}\n{ALL_TAKEN}", SAFE_13),
+    (BOTH, f"{ENDED}\n{SENDER.replace('open', 'ended')}\n{ALL_TAKEN}", SAFE_13),
+    *(
+        (
+            BOTH,
+            f"{RECEIVER.replace('open', word)}\n{SENDER.replace('open', 'ended')}\n{LISTS}",
+            f"broken fates line {line}\nsafe",
+        )
+        for word, line in (("closed", 13), ("reset", 14), ("stopped", 13))
+    ),
+    *(
+        (BOTH, f"{NONE_TAKEN.replace('open', word)}\n{SENDER}\n{LISTS}", wanted)
+        for word, wanted in (("open", "kept"), ("closed", SAFE_13), ("reset", "kept"), ("stopped", SAFE_13))
+    ),
     (BOTH, f"{NONE_ENDED}\n{SENDER}\n{LISTS}", f"{CLOSES}\nsafe"),
-    (DATA + BOTH, f"{NONE_ENDED}\n{NONE_SENT}\n{LISTS}", "broken closes lines 7 8\nbroken fates line 7\nsafe"),
-    (DATA + BOTH, f"{NONE_ENDED}\n{NONE_SENT}\n{LIST}{LIST}", "broken fates line 7\nsafe"),
-    (BOTH, f"{SENDER}\n{ENDED}\n{LISTS_TURNED}", "broken closes lines 11 10\n" + SAFE_11),
-    (BOTH, f"{ENDED}\n{LIST}", f"{ALONE}\n{FATES_10}"),
-    (BOTH, f"{NONE_ENDED}\n{LIST}", SAFE_10),
-    (BOTH, f"{ENDED.replace('receive 1', 'receive 0')}\n{SENDER}\n{ALL_TAKEN}", "broken lives line 10\n" + CLOSES),
-    (BOTH, f"{ENDED}\n{SENDER.replace('4849', '4848')}\n{ALL_TAKEN.replace('4849', '4848')}", "broken lives line 11\nbroken streams lines 10 11\n" + CLOSES),
-    (BOTH, f"{ENDED}\n{SENDER.replace('33 0/1 16', '33 0/1 18')}\n{LISTS}", f"broken lives line 11\n{ALONE}\n{FATES_10}"),
-    (BOTH, f"{ENDED}\n{SENDER}\n{SENDER}\n{LIST}handed 16 4849\nhanded 24 484950\n", "broken partners lines 11 12\n" + CLOSES),
-    (BOTH, f"{ENDED}\n{ENDED}\n{SENDER}\n{LIST}{LISTS}", "broken partners lines 10 11\nbroken closes lines 10 12\n" + FATES_10),
-    (BOTH, f"{ENDED}\n{NONE_ENDED}\n{SENDER}\n{LIST}{ALL_TAKEN}", "broken partners lines 10 11\nbroken closes lines 11 12\n" + FATES_10),
+    (DATA + BOTH, f"{NONE_ENDED}\n{NONE_SENT}\n{LISTS}", "broken closes lines 10 11\nbroken fates line 10\nsafe"),
+    (DATA + BOTH, f"{NONE_ENDED}\n{NONE_SENT}\n{LIST}{LIST}", "broken fates line 10\nsafe"),
+    (BOTH, f"{SENDER}\n{ENDED}\n{LISTS_TURNED}", "broken closes lines 14 13\n" + SAFE_14),
+    (BOTH, f"{ENDED}\n{LIST}", f"{ALONE}\n{FATES_13}"),
+    (BOTH, f"{NONE_ENDED}\n{LIST}", SAFE_13),
+    (BOTH, f"{ENDED.replace('receive 1', 'receive 0')}\n{SENDER}\n{ALL_TAKEN}", "broken lives line 13\n" + CLOSES),
+    (
+        BOTH,
+        f"{ENDED}\n{SENDER.replace('4849', '4848')}\n{ALL_TAKEN.replace('4849', '4848')}",
+        "broken lives line 14\nbroken streams lines 13 14\n" + CLOSES,
+    ),
+    (
+        BOTH,
+        f"{ENDED}\n{SENDER.replace('33 0/1 16', '33 0/1 18')}\n{LISTS}",
+        f"broken lives line 14\n{ALONE}\n{FATES_13}",
+    ),
+    (
+        BOTH,
+        f"{ENDED}\n{SENDER}\n{SENDER}\n{LIST}handed 16 4849\nhanded 24 484950\n",
+        "broken partners lines 14 15\n" + CLOSES,
+    ),
+    (
+        BOTH,
+        f"{ENDED}\n{ENDED}\n{SENDER}\n{LIST}{LISTS}",
+        "broken partners lines 13 14\nbroken closes lines 13 15\n" + FATES_13,
+    ),
+    (
+        BOTH,
+        f"{ENDED}\n{NONE_ENDED}\n{SENDER}\n{LIST}{ALL_TAKEN}",
+        "broken partners lines 13 14\nbroken closes lines 14 15\n" + FATES_13,
+    ),
     # a life that ends as both CLS let it, and lost something
-    (DATA + RECEIVER, DATA + BOTH_CLS + ENDED, "broken closes lines 16 17\nbroken fates line 17\nsafe"),
-    (f"{DATA}{RECEIVER}\n{SENDER}", f"{DATA}{BOTH_CLS}{ENDED}\n{CLOSED}", "broken closes lines 16 17\nsafe"),
+    (DATA + RECEIVER, DATA + BOTH_CLS + ENDED, "broken closes lines 19 20\nbroken fates line 20\nsafe"),
+    (f"{DATA}{RECEIVER}\n{SENDER}", f"{DATA}{BOTH_CLS}{ENDED}\n{CLOSED}", "broken closes lines 19 20\nsafe"),
     # with a part that may be asked of any program there is no word
-    (RECEIVER, RECEIVER.replace("1 100", "1 15").replace("open", "closed"), "broken grants lines 10 11\n" + FATES_10),
+    (RECEIVER, RECEIVER.replace("1 100", "1 15").replace("open", "closed"), "broken grants lines 13 14\n" + FATES_13),
     # the life that fails is the receiving one, wherever it is
-    (BOTH, f"{SENDER}\n{RECEIVER[:-1]}8\n{LISTS_TURNED}", "broken lives line 11\nbroken streams lines 11 10"),
-    (BOTH, f"{SENDER}\n{RECEIVER.replace('1 100', '1 15')}\n{LISTS_TURNED}", "broken grants lines 11 10"),
-    (BOTH, f"{SENDER.replace('send 1', 'send 2')}\n{RECEIVER}\n{LISTS_TURNED}", "broken lives line 10\nbroken grants lines 11 10"),
+    (BOTH, f"{SENDER}\n{RECEIVER[:-1]}8\n{LISTS_TURNED}", "broken lives line 14\nbroken streams lines 14 13"),
+    (BOTH, f"{SENDER}\n{RECEIVER.replace('1 100', '1 15')}\n{LISTS_TURNED}", "broken grants lines 14 13"),
+    (
+        BOTH,
+        f"{SENDER.replace('send 1', 'send 2')}\n{RECEIVER}\n{LISTS_TURNED}",
+        "broken lives line 13\nbroken grants line 13",
+    ),
     (BOTH, f"{SENDER}\n{RECEIVER}\n{LISTS_TURNED}", "kept"),
-    (BOTH, f"{SENDER}\n{RECEIVER}\n{LISTS}", "broken streams line 10"),
+    (BOTH, f"{SENDER}\n{RECEIVER}\n{LISTS}", "broken streams line 13"),
     # each part that fails is named
-    ("receive 1 16 1 100 0 0 open 4849", "receive 1 16 0 0 0 0 open 4848", "broken lives line 10\nbroken streams lines 10 11\nbroken grants lines 10 11"),
-    (BOTH, f"{RECEIVER}\n{RECEIVER}\n{SENDER.replace('4849', '4848')}\n{LIST}{LISTS}", "broken lives line 12\nbroken partners lines 10 11\nbroken streams lines 10 12"),
-    (BOTH, f"{RECEIVER.replace('1 100', '1 15')}\n{SENDER}\n{SENDER}\n{LISTS}handed 8 48\n", "broken partners lines 11 12\nbroken streams line 12\nbroken grants lines 10 11"),
-    ("0/2 0/1 5\nlife 0/1", "0/2 0/1 6\nlife 0/1", "broken run line 9\nbroken messages line 9"),
+    (
+        "receive 1 16 1 100 0 0 open 4849",
+        "receive 1 16 0 0 0 0 open 4848",
+        "broken lives line 13\nbroken streams lines 13 14\nbroken grants lines 13 14",
+    ),
+    (
+        BOTH,
+        f"{RECEIVER}\n{RECEIVER}\n{SENDER.replace('4849', '4848')}\n{LIST}{LISTS}",
+        "broken lives line 15\nbroken partners lines 13 14\nbroken streams lines 13 15",
+    ),
+    (
+        BOTH,
+        f"{RECEIVER.replace('1 100', '1 15')}\n{SENDER}\n{SENDER}\n{LISTS}handed 8 48\n",
+        "broken partners lines 14 15\nbroken streams line 15\nbroken grants lines 13 14",
+    ),
+    ("0/2 0/1 5\nlife 0/1", "0/2 0/1 6\nlife 0/1", "broken run line 12\nbroken messages line 12"),
     # two senders of one life are odd partners, and its stream is that of either
-    (BOTH, f"{RECEIVER}\n{SENDER.replace('4849', '4848')}\n{SENDER}\n{LISTS}handed 24 484950\n", "broken lives line 11\nbroken partners lines 11 12\nbroken streams line 11"),
+    (
+        BOTH,
+        f"{RECEIVER}\n{SENDER.replace('4849', '4848')}\n{SENDER}\n{LISTS}handed 24 484950\n",
+        "broken lives line 14\nbroken partners lines 14 15\nbroken streams line 14",
+    ),
 ]
 
 # ---- the log of a message of before a reset that is taken after it, with a text changed, and the verdict
@@ -365,7 +453,11 @@ SENT = [
     (TAKES_TWO, TAKES_TWO.replace("2 16 9", "0 0 9").replace("5858", "-"), "kept"),
     # whichever line is first, the receiver's is named first; and nobody else where its sender isn't there
     (f"{TAKES_TWO}\n{SENDS_TWO}", f"{SENDS_TWO}\n{TAKES_TWO}", "broken streams line 34\nbroken sent lines 35 34"),
-    (SENDS_TWO, SENDS_TWO.replace("0/1 16 19", "0/1 18 19"), "broken lives line 35\nbroken streams line 34\nbroken sent line 34"),
+    (
+        SENDS_TWO,
+        SENDS_TWO.replace("0/1 16 19", "0/1 18 19"),
+        "broken lives line 35\nbroken streams line 34\nbroken sent line 34",
+    ),
 ]
 
 # ---- logs of one line and `end`, and the verdict; those that are bad
@@ -377,7 +469,12 @@ LINES = {
         *("out 0/1 0/2 5 0 -", "out 3/63 0/1 255 1 80", "out 0/1 0/1 0 8 FF", f"out 0/1 0/2 5 8063 {'FF' * 1007}FE"),
         "down 0/1",
     ],
-    "broken run line 1": ["answer dead 0/1 0/2 0", "answer incomplete 3/63 0/1 255", "answer nottaken 0/1 0/2 0", "up 3/63"],
+    "broken run line 1": [
+        "answer dead 0/1 0/2 0",
+        "answer incomplete 3/63 0/1 255",
+        "answer nottaken 0/1 0/2 0",
+        "up 3/63",
+    ],
     "broken run line 1\nbroken messages line 1": ["in 0/1 0/2 5 0 -", "answer rfnm 0/1 0/2 5"],
     "broken lives line 1\nmalformed line 1": [
         *(LIFE, GREATEST, LIFE.replace("16 1 100", "13 1 100").replace("4849", "4848")),
@@ -387,21 +484,110 @@ LINES = {
 }
 BAD_LINES = [
     *("", " ", "#", "# end", "End", "end ", " end", "end\r", "end\0", "\xef\xbb\xbfend", "kept", "%", "take 0/1"),
-    *("ready 0/1 0/2", "opened 0/1 16 0/2 33", "sent 0/1 33 8", "arrived 0/1 16 8", "refused Blocked", "down", "down 0/1 0/2", "up 0", "Up 0/1"),
-    *("out 0/1 0/2 5 0", "out 0/1 0/2 5 0 - ", "out 0/1 0/2 5 0  -", "out\t0/1 0/2 5 0 -", "out 0/1 0/2 5 0 -\r", "OUT 0/1 0/2 5 0 -", "out 0/1 0/2 5 0 - -"),
-    *("out 0/1 0/2 5 8 ff", "out 0/1 0/2 5 8 F", "out 0/1 0/2 5 8 FF00", "out 0/1 0/2 5 9 FF", "out 0/1 0/2 5 7 FF", "out 0/1 0/2 5 8 -", "out 0/1 0/2 5 0 00"),
-    *("out 0/1 0/2 5 08 FF", "out 0/1 0/2 5 +8 FF", "out 0/1 0/2 5 -0 -", "out 0/1 0/2 5 0x8 FF", f"out 0/1 0/2 5 8064 {'FF' * 1008}"),
-    *("out 0/1 0/2 256 0 -", "out 0/1 0/2 05 0 -", "out 0/1 0/2 -1 0 -", "out 4/1 0/2 5 0 -", "out 0/64 0/2 5 0 -", "out 0/0 0/2 5 0 -", "out 00/1 0/2 5 0 -"),
-    *("out 0/1 0/02 5 0 -", "out 1 0/2 5 0 -", "in 0/1 0/2 5 0", "in 0/1 5 0 -", "answer rfn 0/1 0/2 5", "answer RFNM 0/1 0/2 5", "answer rfnm 0/1 0/2"),
-    *("answer rfnm 0/1 0/2 256", "answer rfnm 0/1 0/2 5 0", "answer 0/1 0/2 5", "answer notTaken 0/1 0/2 5", "answer never 0/1 0/2 5", "handed", "handed 0", "handed 0 00", "handed 8 -", "handed 1 C0", "handed 08 FF"),
-    *(LIFE.replace("0/1 16", f"0/1 {2**32 + 16}"), LIFE.replace("0/2 33", f"0/2 {2**32 + 33}"), LIFE.replace("0/2 33", f"0/2 0{33}")),
-    *(LIFE.replace(" 0 4 ", f" {2**64} 4 "), LIFE.replace(" 0 4 ", f" 0 {2**64} "), LIFE.replace(" 0 4 ", " 00 4 "), LIFE.replace(" 0 4 ", " 0 -4 ")),
-    *(LIFE.replace("receive 1 ", f"receive {2**128} "), LIFE.replace(" 1 100", f" {2**128} 100"), LIFE.replace(" 1 100", f" 1 {2**128}")),
-    *(LIFE.replace("0 0 open", f"{2**128} 0 open"), LIFE.replace("0 0 open", f"0 {2**128} open"), LIFE.replace("0 0 open", f"0 {'9' * 5000} open")),
+    *(
+        "ready 0/1 0/2",
+        "opened 0/1 16 0/2 33",
+        "sent 0/1 33 8",
+        "arrived 0/1 16 8",
+        "refused Blocked",
+        "down",
+        "down 0/1 0/2",
+        "up 0",
+        "Up 0/1",
+    ),
+    *(
+        "out 0/1 0/2 5 0",
+        "out 0/1 0/2 5 0 - ",
+        "out 0/1 0/2 5 0  -",
+        "out\t0/1 0/2 5 0 -",
+        "out 0/1 0/2 5 0 -\r",
+        "OUT 0/1 0/2 5 0 -",
+        "out 0/1 0/2 5 0 - -",
+    ),
+    *(
+        "out 0/1 0/2 5 8 ff",
+        "out 0/1 0/2 5 8 F",
+        "out 0/1 0/2 5 8 FF00",
+        "out 0/1 0/2 5 9 FF",
+        "out 0/1 0/2 5 7 FF",
+        "out 0/1 0/2 5 8 -",
+        "out 0/1 0/2 5 0 00",
+    ),
+    *(
+        "out 0/1 0/2 5 08 FF",
+        "out 0/1 0/2 5 +8 FF",
+        "out 0/1 0/2 5 -0 -",
+        "out 0/1 0/2 5 0x8 FF",
+        f"out 0/1 0/2 5 8064 {'FF' * 1008}",
+    ),
+    *(
+        "out 0/1 0/2 256 0 -",
+        "out 0/1 0/2 05 0 -",
+        "out 0/1 0/2 -1 0 -",
+        "out 4/1 0/2 5 0 -",
+        "out 0/64 0/2 5 0 -",
+        "out 0/0 0/2 5 0 -",
+        "out 00/1 0/2 5 0 -",
+    ),
+    *(
+        "out 0/1 0/02 5 0 -",
+        "out 1 0/2 5 0 -",
+        "in 0/1 0/2 5 0",
+        "in 0/1 5 0 -",
+        "answer rfn 0/1 0/2 5",
+        "answer RFNM 0/1 0/2 5",
+        "answer rfnm 0/1 0/2",
+    ),
+    *(
+        "answer rfnm 0/1 0/2 256",
+        "answer rfnm 0/1 0/2 5 0",
+        "answer 0/1 0/2 5",
+        "answer notTaken 0/1 0/2 5",
+        "answer never 0/1 0/2 5",
+        "handed",
+        "handed 0",
+        "handed 0 00",
+        "handed 8 -",
+        "handed 1 C0",
+        "handed 08 FF",
+    ),
+    *(
+        LIFE.replace("0/1 16", f"0/1 {2**32 + 16}"),
+        LIFE.replace("0/2 33", f"0/2 {2**32 + 33}"),
+        LIFE.replace("0/2 33", f"0/2 0{33}"),
+    ),
+    *(
+        LIFE.replace(" 0 4 ", f" {2**64} 4 "),
+        LIFE.replace(" 0 4 ", f" 0 {2**64} "),
+        LIFE.replace(" 0 4 ", " 00 4 "),
+        LIFE.replace(" 0 4 ", " 0 -4 "),
+    ),
+    *(
+        LIFE.replace("receive 1 ", f"receive {2**128} "),
+        LIFE.replace(" 1 100", f" {2**128} 100"),
+        LIFE.replace(" 1 100", f" 1 {2**128}"),
+    ),
+    *(
+        LIFE.replace("0 0 open", f"{2**128} 0 open"),
+        LIFE.replace("0 0 open", f"0 {2**128} open"),
+        LIFE.replace("0 0 open", f"0 {'9' * 5000} open"),
+    ),
     *(LIFE.replace("receive", "send"), LIFE.replace("0/1 16", "0/1 17"), LIFE.replace("receive", "recv")),
     *(LIFE.replace("open", word) for word in ("closing", "Ended", "over", "end", "0", "ended ended", "resets", "stop")),
-    *(LIFE.replace(" 4849", ""), LIFE + " ", LIFE.replace("1 16 1", "1 17 1"), LIFE.replace("1 16 1", "1 15 1"), LIFE.replace("1 16 1", "1 8 1")),
-    *(LIFE.replace("1 16 1", "1 0 1"), LIFE.replace("4849", "-"), LIFE.replace("0/1 16", "0/0 16"), LIFE.replace("life 0/1", "life 4/1"), LIFE.replace(" open", "")),
+    *(
+        LIFE.replace(" 4849", ""),
+        LIFE + " ",
+        LIFE.replace("1 16 1", "1 17 1"),
+        LIFE.replace("1 16 1", "1 15 1"),
+        LIFE.replace("1 16 1", "1 8 1"),
+    ),
+    *(
+        LIFE.replace("1 16 1", "1 0 1"),
+        LIFE.replace("4849", "-"),
+        LIFE.replace("0/1 16", "0/0 16"),
+        LIFE.replace("life 0/1", "life 4/1"),
+        LIFE.replace(" open", ""),
+    ),
 ]
 
 # ---- whole logs, octet by octet, and the verdict or the number of the bad line

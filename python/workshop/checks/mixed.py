@@ -45,7 +45,7 @@ def broken_among(world: MixedWorld) -> str | None:
     log, lives = world.carrier.log, world.lives_among()
     if first_break(world.carrier.hosts(), log) is not None:
         return "the mailboxes"
-    if part := broken_book(log, lives):
+    if part := broken_book(log, lives, world.strangers):
         return part
     peers = {notice.split(" ")[1] for _, notice, _ in world.book.notices if notice.startswith("error ")}
     if peers - {spell_host(it) for it in world.strangers}:

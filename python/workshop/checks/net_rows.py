@@ -84,8 +84,9 @@ class BoxRows:
                 return str(len(boxes.is_up))
             case "crossings", []:
                 return str(len(boxes.log))
-            case "rests", []:
-                return in_word(not boxes.messages and not boxes.answers)
+            case "rests", beside:
+                waits_for = {it.flow.destination for it in waiting} | {it.flow.source for it in boxes.answers}
+                return in_word({*map(spell_host, waits_for)} <= {*beside})
         return None
 
     def happened(self, name: str, words: list[str]) -> str:
@@ -349,6 +350,8 @@ class RouteRows:
                 self.state.ports[int(port)].heard = [*octets_in(digits)]
             case "lost", [port]:
                 self.state.ports[int(port)].heard = None
+            case "claim", []:
+                self.state.claims = True
             case "ports", []:
                 return [str(len(self.state.ports))]
             case "look", []:

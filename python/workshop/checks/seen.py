@@ -1,9 +1,10 @@
 """What a long calm has printed is seen while it lasts, and calms that rest end at once (a second).
 
 Two echo services send one octet to and fro for as long as a calm lasts. From its 65th round on the program has to have
-written all lines after each round, of a trace too, so that an interrupt loses none of them. Where something waits for a
-stranger rounds pass that change nothing, and what was printed before them has to be written, too. A network that rests
-has to end at once, however many rounds it is given, also where a host has more to say than its IMP has room for.
+written all lines after each round, of a trace too, so that an interrupt loses none of them. Where an IMP has no place
+for one message more, it goes again in rounds that change nothing, and what was printed before them has to be written, too. A
+calm in a network that rests has to end at once, however many rounds it is given, also where a host has more to say than its
+IMP has room for, and while something waits for a stranger; and so its trace and its log.
 
 ./check seen [PROGRAM]: without one it takes the proved program, or the one that was built without proofs.
 """
@@ -16,7 +17,7 @@ import select
 import socket
 import subprocess
 import tempfile
-from itertools import accumulate
+from itertools import accumulate, product
 
 from dorydate.model.topology import Topology, spelled_input
 from workshop.checks.limits import JOINED, PAIR
@@ -31,13 +32,24 @@ WAITS = 60.0  # seconds by the clock at most, on a busy machine, until what was 
 CHAIN = Topology("subnet", False, [(imp, 4) for imp in range(1, 14)], [(imp, imp + 1) for imp in range(1, 13)])
 CONTACTS = [f"contact 0/1 {host}/{imp}" for imp in range(2, 14) for host in range(4)]
 SILENT = Topology("subnet", True, [(1, 1), (2, 1)], [(1, 2)])
-# a contact waits for a stranger, so that the calm lasts though no round of it changes anything
-WAITING = spelled_input(Topology("plain", False, [(1, 2)], [], [(1, [1])]), ["contact 0/1 1/1", f"calm {MOST}"])
-# what comes before a calm that rests though something was refused or lost, and its network
+MAILED = Topology("plain", False, [(1, 2)], [], [(1, [1])])
+PASSED = Topology("subnet", False, [(1, 1), (2, 2)], [(1, 2)], [(2, [1])])
+# 63 IMPs in a row, with a stranger at the last
+ROW = Topology(
+    "subnet", False, [(imp, 1) for imp in range(1, 64)], [(imp, imp + 1) for imp in range(1, 63)], [(63, [0])]
+)
+# 16 messages can wait for a stranger, so that the last of these goes again and again
+TALKING = Topology("subnet", False, [(1, 1), (2, 1)], [(1, 2)], [(1, [0]), (2, [0])])
+LASTING = spelled_input(TALKING, ["calm 3", *(f"out 0/2 0/1 {link} 0 -" for link in range(17)), f"calm {MOST}"])
+# what comes before a calm that rests though something was refused or lost, or waits for a stranger, and its network
 RESTING = {
     "offers that are refused": (CHAIN, ["calm 20", "enddown 2 0", *CONTACTS]),
     "frames that are lost": (SILENT, ["calm 3", "enddown 2 0", "out 0/1 0/2 9 8 41"]),
+    "a message in a stranger's box": (MAILED, ["contact 0/1 1/1"]),
+    "a message at a stranger's IMP": (PASSED, ["calm 3", "contact 0/1 1/2", "contact 0/1 0/2"]),
+    "a message at the last of 63 IMPs": (ROW, ["calm 70", "contact 0/1 0/63"]),
 }
+WAYS = [(), ("--trace",), ("--log",)]
 
 
 def dialogue(rounds: int) -> bytes:
@@ -90,19 +102,28 @@ def faults_of_trace(program: str) -> list[str]:
     if b"".join(writes) != whole:
         wrong.append("the writes are not the trace")
     if len(late) != 100 or not written.issuperset(late):
-        wrong.append(f"of {len(late)} late rounds of a trace {len(written.intersection(late))} were written when they had passed")
+        wrong.append(
+            f"of {len(late)} late rounds of a trace {len(written.intersection(late))} were written when they had passed"
+        )
     return wrong
+
+
+def written_by(descriptor: int) -> bytes:
+    """What is written there, till nothing more comes."""
+    octets, seconds = b"", WAITS
+    while select.select([descriptor], [], [], seconds)[0] and (more := os.read(descriptor, 1 << 16)):
+        octets, seconds = octets + more, 1.0
+    return octets
 
 
 def faults_of_waiting(program: str, *options: str) -> list[str]:
     """What is wrong with a calm that lasts though nothing changes: what comes before it has to be written."""
     with tempfile.TemporaryFile() as source:
-        source.write(WAITING)
+        source.write(LASTING)
         source.seek(0)
         with subprocess.Popen([program, *options], stdin=source, stdout=subprocess.PIPE) as process:
             assert process.stdout
-            ready, _, _ = select.select([process.stdout], [], [], WAITS)
-            first = os.read(process.stdout.fileno(), 1 << 16) if ready else b""
+            first = written_by(process.stdout.fileno())
             ended = process.poll() is not None
             process.kill()
     good = first.endswith(b"\n") and not ended
@@ -113,15 +134,16 @@ def faults_of_waiting(program: str, *options: str) -> list[str]:
 def faults_of_resting(program: str) -> list[str]:
     """Which calms take as long as they have rounds, or print something else than short ones."""
     wrong = []
-    for name, (network, lines) in RESTING.items():
-        short = printed(program, spelled_input(network, [*lines, "calm 1000"]))
+    for (name, (network, lines)), options in product(RESTING.items(), WAYS):
+        named = " ".join((name, *options))
+        short = printed(program, spelled_input(network, [*lines, "calm 1000"]), *options)
         try:
-            ran = run_within([program], spelled_input(network, [*lines, f"calm {MOST}"]), WITHIN)
+            ran = run_within([program, *options], spelled_input(network, [*lines, f"calm {MOST}"]), WITHIN)
         except NotEnded as why:
-            wrong.append(f"{name}: {why}")
+            wrong.append(f"{named}: {why}")
             continue
         if (ran.returncode, ran.stdout) != (0, short):
-            wrong.append(f"{name}: {len(ran.stdout)} octets, and a short calm prints {len(short)}")
+            wrong.append(f"{named}: {len(ran.stdout)} octets, and a short calm prints {len(short)}")
     return wrong
 
 

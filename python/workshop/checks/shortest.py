@@ -40,19 +40,10 @@ MAILBOXES = Network.joined("LEFT", "RIGHT", raw=True, carrier="plain")
 NOTHING = Pattern("", ())
 
 
-def asked(
-    network: Network,
-    pattern: Pattern,
-    depth: int,
-    calms: tuple[Calm, ...] = CALMS,
-    kinds: tuple[str, ...] = (),
-    opening: tuple[Event, ...] = (),
-) -> Asked:
+def asked(network: Network, pattern: Pattern, depth: int, calms: tuple[Calm, ...] = CALMS, kinds: tuple[str, ...] = (), opening: tuple[Event, ...] = ()) -> Asked:
     """All events of a network, or those of some kinds, with calms."""
     found = fit(chosen(pools(network), kinds) if kinds else pools(network), pattern)
-    return Asked(
-        network, pattern, opening, (*(event for kind in found.values() for event in kind), *calms), depth, SECONDS
-    )
+    return Asked(network, pattern, opening, (*(event for kind in found.values() for event in kind), *calms), depth, SECONDS)
 
 
 # ---- claims
@@ -93,11 +84,7 @@ def row_of(claim: Claim, program: Program) -> str:
     steps, states = sum(it.steps for it in answer.levels), answer.levels[-1].states if answer.levels else 1
     none, shortest, script = f"none of up to {answer.whole}", "", ""
     if answer.found is not None:
-        none, shortest, script = (
-            f"none of up to {len(answer.found) - 1}",
-            str(len(answer.found)),
-            "; ".join(map(str, answer.found)),
-        )
+        none, shortest, script = f"none of up to {len(answer.found) - 1}", str(len(answer.found)), "; ".join(map(str, answer.found))
         if not Search(claim.network, pattern, program).matches(answer.found):
             script = f"not confirmed: {script}"
     elif answer.is_all:
@@ -108,12 +95,7 @@ def row_of(claim: Claim, program: Program) -> str:
 
 # ---- what long calms make of states
 
-RESTS = [
-    ("plain mailboxes", TWO_PLAIN, 7),
-    ("two IMPs", TWO, 5),
-    ("two IMPs, raw", TWO_RAW, 6),
-    ("plain mailboxes, raw", MAILBOXES, 40),
-]
+RESTS = [("plain mailboxes", TWO_PLAIN, 7), ("two IMPs", TWO, 5), ("two IMPs, raw", TWO_RAW, 6), ("plain mailboxes, raw", MAILBOXES, 40)]
 
 
 def rests() -> Iterator[str]:
@@ -191,16 +173,8 @@ def beside(by_trace: dict[str, Beside], finder: str) -> list[str]:
 
 IS_UP = "            return Err(Refusal::IsUp);"
 PLANTED = {
-    "two phases of a reset are spelled alike": (
-        "pair.rs",
-        "to.extend([self.phase.code(), self.owed as u8]);",
-        "to.extend([self.phase.code().min(4), self.owed as u8]);",
-    ),
-    "answers that wait aren't spelled": (
-        "boxes.rs",
-        "                answer.spell(to);\n                flow.spell(to);",
-        "                let _ = (answer, flow);",
-    ),
+    "two phases of a reset are spelled alike": ("pair.rs", "to.extend([self.phase.code(), self.owed as u8]);", "to.extend([self.phase.code().min(4), self.owed as u8]);"),
+    "answers that wait aren't spelled": ("boxes.rs", "                answer.spell(to);\n                flow.spell(to);", "                let _ = (answer, flow);"),
     "whether a host is up isn't spelled": ("boxes.rs", "            found.is_up.spell(to);\n", ""),
     "whether an end of a line is up isn't spelled": ("imp.rs", "            port.is_down.spell(to);\n", ""),
     "frames that only acknowledge are left out": (
@@ -208,21 +182,9 @@ PLANTED = {
         "            live.len().spell(to);\n            live.iter().for_each(|it| it.spell(INFINITE, to));",
         "            live.iter().filter(|it| !matches!(it.content, Content::Acknowledgements)).for_each(|it| it.spell(INFINITE, to));",
     ),
-    "a place in the log is part of a state": (
-        "world.rs",
-        "        self.carrier.spell(to);\n",
-        "        self.carrier.spell(to);\n        self.past.spell(to);\n",
-    ),
-    "a close that is refused changes the byte size": (
-        "program.rs",
-        "        if end.close_asked || end.close_taken {\n",
-        "        if end.close_asked || end.close_taken {\n            end.size ^= 1;\n",
-    ),
-    "a start of a host that is up is refused, and loses its answers": (
-        "boxes.rs",
-        IS_UP,
-        f"            self.known(host).answers.clear();\n{IS_UP}",
-    ),
+    "a place in the log is part of a state": ("world.rs", "        self.carrier.spell(to);\n", "        self.carrier.spell(to);\n        self.past.spell(to);\n"),
+    "a close that is refused changes the byte size": ("program.rs", "        if end.close_asked || end.close_taken {\n", "        if end.close_asked || end.close_taken {\n            end.size ^= 1;\n"),
+    "a start of a host that is up is refused, and loses its answers": ("boxes.rs", IS_UP, f"            self.known(host).answers.clear();\n{IS_UP}"),
 }
 
 
@@ -268,23 +230,13 @@ def main() -> int:
     by_trace = walks(program)
     wrong = beside(by_trace, finder)
     if wrong:
-        wrong += [
-            f"{where}: {it}" for where, walk in by_trace.items() for it in spelled_apart(BESIDE[where], walk, finder)
-        ]
-    print(
-        "check shortest: states by the trace and by the plain program:",
-        ", ".join(f"{where}: {len(walk.states)}" for where, walk in by_trace.items()),
-        flush=True,
-    )
+        wrong += [f"{where}: {it}" for where, walk in by_trace.items() for it in spelled_apart(BESIDE[where], walk, finder)]
+    print("check shortest: states by the trace and by the plain program:", ", ".join(f"{where}: {len(walk.states)}" for where, walk in by_trace.items()), flush=True)
     made = page(program)
     if asked.write:
         Path(PAGE).write_text(made, encoding="utf-8")
     elif not os.path.isfile(PAGE) or Path(PAGE).read_text(encoding="utf-8") != made:
         wrong.append("docs/measured/shortest.md is not what is found: ./check shortest --write")
     wrong += [it for it in made.splitlines() if "not confirmed" in it]
-    print(
-        *[f"check shortest: {it}" for it in wrong],
-        f"check shortest: {len(CLAIMS)} claims, {len(wrong)} faults",
-        sep="\n",
-    )
+    print(*[f"check shortest: {it}" for it in wrong], f"check shortest: {len(CLAIMS)} claims, {len(wrong)} faults", sep="\n")
     return 1 if wrong else 0

@@ -27,7 +27,7 @@ SAFE = "\nsafe"
 CHANGED = [
     ("", "", "kept"),
     # who is a stranger: nobody, others too, and hosts of which nothing crossed
-    (FOREIGN, "", "broken streams line 29\nbroken sent line 29"),
+    (FOREIGN, "", "broken streams line 29\nbroken grants line 31\nbroken sent line 29"),
     (FOREIGN, "foreign 0/2\n", "broken streams line 30\nbroken sent line 30\nbroken toward line 31"),
     (FOREIGN, f"foreign 0/2\n{FOREIGN}", "broken toward line 32"),
     (FOREIGN, f"foreign 0/1\n{FOREIGN}", "broken toward line 30"),

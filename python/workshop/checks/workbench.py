@@ -219,22 +219,12 @@ def lines_by_chance(count: int) -> list[tuple[str, bool, str]]:
         if "." not in name:
             with open(f"{ROOT}/examples/{name}", encoding="utf-8") as file:
                 head, _, script = file.read().partition("\n%\n")
-            known += [
-                (line, "raw = true" in head)
-                for line in script.split("\n")
-                if line and not line.startswith("#") and len(line) < 200
-            ]
+            known += [(line, "raw = true" in head) for line in script.split("\n") if line and not line.startswith("#") and len(line) < 200]
     found = []
     for _ in range(count):
         line, raw = chance.choice(known)
         at = chance.randrange(len(line) + 1)
-        changes = [
-            line,
-            line[:at] + chance.choice("0123456789/+-ABf ") + line[at:],
-            line[:at] + line[at + 1 :],
-            line[:at],
-            chance.choice(known)[0],
-        ]
+        changes = [line, line[:at] + chance.choice("0123456789/+-ABf ") + line[at:], line[:at] + line[at + 1 :], line[:at], chance.choice(known)[0]]
         line = chance.choice(changes)
         if line and not line.startswith("#"):
             found.append((line, raw, faults.wrong_with_line(line.encode(), raw) or ""))
@@ -243,7 +233,7 @@ def lines_by_chance(count: int) -> list[tuple[str, bool, str]]:
 
 # lines that are put into topologies at random
 WRITTEN = (
-    'raw = 1|carrier = "Plain"|imps = 3|[[imp]]|[[line]]|id = 1|id = 64|hosts = 5|hosts = true|a = 2|b = 2|b = 0|c = 1'
+    "raw = 1|carrier = \"Plain\"|imps = 3|[[imp]]|[[line]]|id = 1|id = 64|hosts = 5|hosts = true|a = 2|b = 2|b = 0|c = 1"
     "|take 0/1|line = 3|% |in 0/1 0/2 5 0 -|foreign = [0]|foreign = [2, 1]|foreign = []|foreign = 1|foreign = [0, 0]"
 ).split("|")
 
@@ -266,19 +256,7 @@ def topologies_by_chance(count: int) -> list[tuple[str, str]]:
 
 
 # patterns with a fault each
-BAD_PATTERNS = (
-    "",
-    "A B",
-    "in .. A .. B",
-    "in a B ..",
-    "In A",
-    "not in A",
-    "in A where A",
-    "in A B where A < 12345678901",
-    "calm 12345678901: nothing",
-    "calm 5: quiet",
-    "calm 5: no",
-)
+BAD_PATTERNS = ("", "A B", "in .. A .. B", "in a B ..", "In A", "not in A", "in A where A", "in A B where A < 12345678901", "calm 12345678901: nothing", "calm 5: quiet", "calm 5: no")
 
 
 def faults_of_patterns() -> dict[str, str]:
@@ -299,20 +277,9 @@ def patterns_by_chance(count: int) -> list[dict[str, object]]:
     for name in sorted(os.listdir(f"{ROOT}/examples")):
         if name.endswith(".stdout"):
             with open(f"{ROOT}/examples/{name}", encoding="utf-8") as file:
-                printed.append(
-                    [
-                        it
-                        for it in file.read().split("\n")
-                        if re.match("(?:out|in|answer|up|down|refused|ready|life) ", it)
-                    ]
-                )
+                printed.append([it for it in file.read().split("\n") if re.match("(?:out|in|answer|up|down|refused|ready|life) ", it)])
     patterns = [it.pattern for it in SEARCHES.values() if not read(it.pattern).needs_trace()]
-    patterns += [
-        "in A B N .. then in A B N ..",
-        "out A B N K then not in A B N K then out A B N M where K < M",
-        "answer _ A B N and in B A M ..",
-        "up A then not down A",
-    ]
+    patterns += ["in A B N .. then in A B N ..", "out A B N K then not in A B N K then out A B N M where K < M", "answer _ A B N and in B A M ..", "up A then not down A"]
     found: list[dict[str, object]] = []
     for _ in range(count):
         lines = chance.choice(printed)
@@ -358,17 +325,8 @@ def check_modules(command: str, program: str) -> None:
         states.flush()
         folder = f"{ROOT}/web/workbench/tests"
         tests = [f"{folder}/{it}" for it in sorted(os.listdir(folder)) if it.endswith(".test.js")]
-        ran = subprocess.run(
-            [command, "--test", *tests],
-            env={**os.environ, "ARPASIM": program, "STATES": states.name},
-            capture_output=True,
-            text=True,
-        )
-    counts = {
-        line.split(" ")[1]: line.split(" ")[2]
-        for line in ran.stdout.splitlines()
-        if line.startswith("# ") and line.count(" ") == 2
-    }
+        ran = subprocess.run([command, "--test", *tests], env={**os.environ, "ARPASIM": program, "STATES": states.name}, capture_output=True, text=True)
+    counts = {line.split(" ")[1]: line.split(" ")[2] for line in ran.stdout.splitlines() if line.startswith("# ") and line.count(" ") == 2}
     if ran.returncode:
         raise Wrong(f"{counts.get('fail')} tests failed\n{failures(ran.stdout)}")
     print(f"check workbench: {counts.get('pass')} tests in Node")
@@ -376,17 +334,11 @@ def check_modules(command: str, program: str) -> None:
 
 def failures(told: str) -> str:
     lines = told.splitlines()
-    return "\n".join(
-        line for at, line in enumerate(lines) if any("not ok" in it for it in lines[max(0, at - 14) : at + 1])
-    )[:4000]
+    return "\n".join(line for at, line in enumerate(lines) if any("not ok" in it for it in lines[max(0, at - 14) : at + 1]))[:4000]
 
 
 def check_browsers(command: str) -> None:
-    known = [
-        ("chromium", "chromium-browser", "google-chrome"),
-        ("firefox", "firefox-esr"),
-        ("WebKitWebDriver",) if shutil.which("Xvfb") else (),
-    ]
+    known = [("chromium", "chromium-browser", "google-chrome"), ("firefox", "firefox-esr"), ("WebKitWebDriver",) if shutil.which("Xvfb") else ()]
     browsers = [found[0] for names in known if (found := [path for name in names if (path := shutil.which(name))])]
     if not browsers:
         left_out("workbench", "the page in a browser", "neither Chromium, Firefox nor WebKit is installed")

@@ -61,9 +61,10 @@ class WorldRows:
 
     def rests(self, wanted: list[str]) -> bool:
         """Whether more rounds change nothing. A subnet may not know it; where it does, a round has to change nothing."""
-        carrier = self.world.carrier
+        carrier, strangers = self.world.carrier, self.world.strangers
         if isinstance(carrier, Boxes):
-            return not carrier.messages and not carrier.answers and self.is_silent()
+            waits_for = {flow.destination for flow, _ in carrier.messages} | {it.flow.source for it in carrier.answers}
+            return waits_for <= strangers and self.is_silent()
         if wanted != ["true"]:
             return False
         later = copy.deepcopy(self.world)

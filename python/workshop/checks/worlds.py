@@ -7,7 +7,7 @@ The model is the independent model of the rules (python/dorydate/model/world.py)
 safe, from the crossings, the lives and the bits that were handed over (python/dorydate/model/audit.py): at the end of each run, and after each
 event of some; in these it is looked at too whether what had an effect on a host went out after that host's last clean point for
 its sender (python/dorydate/model/clean.py), and whether each message that a life counts is, with its number, one of its partner
-(python/dorydate/model/was_sent.py). Of each run it is judged too what endings mean, at each moment (python/dorydate/model/endings.py), and
+(python/dorydate/model/was_sent.py), and each message of data has its two lives (python/dorydate/model/between.py). Of each run it is judged too what endings mean, at each moment (python/dorydate/model/endings.py), and
 whether the log determines the bits of its lives (python/dorydate/model/firsts.py), and
 what RFNM of data means (python/dorydate/model/arrived.py), and whether each life is left its fate
 (python/dorydate/model/left.py). So this script doesn't try the program. It tries the promise itself, and with it two facts that are stronger: no program is ever notified of an error, and two lives that continue and

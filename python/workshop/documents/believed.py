@@ -20,7 +20,7 @@ from workshop.documents import believed_promises, believed_words
 from workshop.documents.rules import Place, read
 from workshop.parts import ROOT
 
-MOST_LINES = 616  # without comments, imports and empty lines: what the clauses of book_of need, counted
+MOST_LINES = 642  # without comments, imports and empty lines: what the clauses of book_of need, counted
 MOST_AMONG = 137  # and what those of book_among need beside them
 WORLD = ("net_sim", "World", "WorldState")  # of a world the clauses of book_among use only what is kept, which HEAD_AMONG says
 READING = ("host_pairs", "ncp_control", "bit_messages")  # crates whose definitions say how texts are read
@@ -28,7 +28,7 @@ HEAD = """# What must be believed
 
 `./check docs --write` makes this page from the sources. It has all that [the promise](../headline.md) says of a book without speaking of a program: the clause `promise` of `headline::book_of`, and every definition that it uses, each before those that it uses. These are {definitions} definitions of {files} files, in {lines} lines without comments; `./check docs` wants at most {most}. No host program, packet, route or buffer occurs in them, and no other line of any `specs/` changes what is promised, but for a record, `Seen`.
 
-In the clause, `result` is what `book_of` gives of a world. `(C.calls.seen world.now.carrier).hosts` are the hosts of its network (`crates/interface/specs/Calls.antt`).
+In the clause, `result` is what `book_of` gives of a world. `(C.calls.seen world.now.carrier).hosts` are the hosts of its network, and `.log` is all that crossed there (`crates/interface/specs/Calls.antt`); `world.now.stopped` says whether memory has run out.
 
 Logs are read newest first, and all other lists oldest first. Words that definitions share with Rust are [below](#the-types), and so are [those of the language](#the-words-of-the-language), and [a book to try it on](#a-book-to-try-it-on).
 """
@@ -36,7 +36,7 @@ HEAD_AMONG = """# What must be believed among strangers
 
 `./check docs --write` makes this page from the sources. It has what is promised [among strangers](../headline.md#among-strangers) of a book: the clauses of `mixed_worlds::book_among` but `value`, and every definition that they use and that [the promise's page](promise.md) doesn't have, each before those that it uses. These are {definitions} definitions of {files} files, in {lines} lines without comments; `./check docs` wants at most {most}. [The words of the language](promise.md#the-words-of-the-language) are on that page.
 
-In a clause, `strange_in world.now` says of a host whether it is a stranger (`crates/net_sim/specs/MixedWorlds.antt`), and `hosts` are all hosts of the network, with strangers. Of a world `w` only what it keeps occurs: `w.kept.book`, in `w.kept.handed` the bits that were handed over to be sent in each of its lives, and in `w.kept.fates` the fate of each (`crates/net_sim/specs/Book.antt`).
+In a clause, `strange_in world.now` says of a host whether it is a stranger (`crates/net_sim/specs/Steps.antt`), and `hosts` are all hosts of the network, with strangers. Of a world `w` only what it keeps occurs: `w.kept.book`, in `w.kept.handed` the bits that were handed over to be sent in each of its lives, and in `w.kept.fates` the fate of each (`crates/net_sim/specs/Book.antt`).
 
 Logs are read newest first, and all other lists oldest first.
 """

@@ -37,6 +37,7 @@ KEY = (
 
 # the parts of the promise, what each asks of a book, and what that is in the book of two octets
 WORKED = (
+    ("`booked`", "the book has what crossed in its network", "a log is taken for all that crossed: nothing is left out"),
     ("`run`", "each crossing finds its host up and the box as it needs it", "line 10 puts the data into the empty box of the flow 0/2 to 0/1 on link 5, line 11 takes them from it, and line 12, RFNM, is about a message that was taken"),
     ("`formed`", "a life's requests crossed at its stamps, and its bits are the data of messages on the link that the RTS names", "0/1's RTS went out in line 1 (place 0) and names link 5; 0/2's STR came in in line 5 (place 4). The first message on link 5 after both is that of line 11, with the bits `4849`"),
     ("`told`", "each notice of data reports the message that crossed just before it", "after line 10 the user at 0/2 is notified of 16 bits sent, after line 11 the one at 0/1 of 16 bits that have arrived"),
@@ -52,6 +53,7 @@ WORKED = (
     ("`contacts`", "what a host sends to another next after a contact is an RST", "nothing here: there is no contact"),
     ("`within`", "a life that is over counts nothing that crossed later", "nothing here: no life is over"),
     ("`sent`", "the k-th message that a receiving life counts went out as the k-th of the life that it matches", "0/1 took its first message in line 11. The last one of that flow before this went out in line 10, and it is the first one of the life of line 14"),
+    ("`between`", "each message of data is one that a sending life counts, and a receiving life matches that one", "the only message on another link than 0 went out in line 10. It is the first one of the life of line 14, which that of line 13 matches"),
     ("`granted`", "what a sending life sent is within what the ALLs grant on its link that its host took", "0/2 took an ALL in line 8, after its own request went out in line 4: it names link 5, one message and 100 bits. The life of line 14 sent one message of 16 bits"),
 )
 

@@ -314,7 +314,7 @@ class Believed(unittest.TestCase):
         self.assertEqual([name for _, _, name in first[1]], ["KeepsPromise"])
         self.assertEqual(
             [heading.strip() for heading, _ in others[1:6]],
-            ["### `run`", "### `formed`", "### `told`", "### `safe`", "### `joined`"],
+            ["### `booked`", "### `run`", "### `formed`", "### `told`", "### `safe`"],
         )
 
 

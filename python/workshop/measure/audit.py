@@ -9,6 +9,7 @@
 - connections whose requests go out first and are taken at the end, so the way back from a stamp to its message is long;
 - connections of two hosts on one link, each of which counts all messages that follow;
 - connections that continue while CLS cross of sockets that have no connection, as many as there are connections;
+- connections of the same sockets, each of which has a message that is full of ALLs;
 - connections of two hosts between whose requests these hosts reset each other, as often as there are connections;
 - messages that all go out before the first of them is taken, and are all taken before the first of them is answered, without lives.
 
@@ -30,7 +31,7 @@ from functools import partial
 from itertools import islice
 
 from dorydate.model.book import Life
-from dorydate.model.commands import CLS, RRP, RST, RTS, STR, alone, control_message, header, of_sockets
+from dorydate.model.commands import ALL, CLS, RRP, RST, RTS, STR, alone, control_message, header, of_counts, of_sockets
 from dorydate.model.crossings import Answered, Crossing, Passed
 from dorydate.model.log import Book, spelled_log
 from dorydate.model.names import Flow, HostName
@@ -42,6 +43,7 @@ DATA = "01000001" * 2
 TEXT = header(8, 2) + DATA
 LINKS = range(2, 32)
 REQUESTS = 12  # of ten octets each, in a control message of 120
+GRANTS = 15  # of eight octets each
 Make = Callable[[int], Book]  # a book of this many messages or connections
 Ends = tuple[HostName, HostName, int]  # a receiver, its sender and the link
 
@@ -76,9 +78,16 @@ def connected(book: Book, at: Ends, asked: tuple[int, int], answered: tuple[int,
 
 
 def opened(book: Book, at: Ends) -> None:
-    """Adds the requests of a connection, and its lives."""
+    """Adds the requests of a connection, its lives and its ALL."""
     asked, answered = (passed(book.log, *request) for request in requests(at))
     connected(book, at, asked, answered)
+    granted(book, at, 1)
+
+
+def granted(book: Book, at: Ends, count: int) -> None:
+    """Adds this many ALLs of a connection in one message, each for a message of data."""
+    receiver, sender, link = at
+    passed(book.log, Flow(receiver, sender, 0), control_message([of_counts(ALL, link, 1, 16)] * count))
 
 
 def data(book: Book, at: Ends) -> None:
@@ -118,6 +127,7 @@ def taken_late(count: int) -> Book:
     taken = [passed_in(book.log, request) for two in asked for request in two]
     for place, at in enumerate(at for at in flows if at[0] < at[1]):
         connected(book, at, (sent[2 * place], taken[2 * place]), (sent[2 * place + 1], taken[2 * place + 1]))
+        granted(book, at, 1)
         data(book, at)
     return book
 
@@ -148,6 +158,16 @@ def beside_commands(count: int) -> Book:
         passed(book.log, Flow(receiver, sender, 0), control_message([of_sockets(CLS, 2, 3)]))
     for life in book.lives:
         life.bits, life.messages = "", 0
+    return book
+
+
+def beside_grants(count: int) -> Book:
+    """Connections of the same sockets, each with a message that is full of ALLs."""
+    book = Book([], [], [])
+    for at in [next(ends())] * count:
+        opened(book, at)
+        granted(book, at, GRANTS)
+        data(book, at)
     return book
 
 
@@ -231,6 +251,7 @@ MEASURED: list[tuple[str, Make]] = [
     ("requests that are taken late", taken_late),
     ("connections on one link that count the same messages", one_link),
     ("connections that continue beside many commands", beside_commands),
+    ("connections of the same sockets beside many ALLs", beside_grants),
     ("connections of two hosts with resets between their requests", beside_resets),
     ("messages that all go out before one is taken", all_at_once),
     ("the same, and an RFNM comes twice", answered_twice),

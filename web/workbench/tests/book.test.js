@@ -64,6 +64,15 @@ test("what a life sent is told beside what ALLs grant", () => {
     assert(/more than the 0 messages and 0 bits that .* grant on link 5/.test(granted(other) ?? ""));
 });
 
+test("a message of data is told with the two lives between which it went", () => {
+    const between = (/** @type {string} */ log) => printed(log, 10)?.find((it) => it.startsWith("  promise.between:"));
+    assert(/from the life of line 14 to that of line 13, which matches it/.test(between(octets) ?? ""));
+    const untaken = octets.replace(/life 0\/1 .*\n/, "").replace("handed 0 -\n", "");
+    assert(/No receiving life matches the life of line 13, which counts it/.test(between(untaken) ?? ""));
+    const unsent = octets.replace(/life 0\/2 .*\n/, "").replace("handed 24 484950\n", "");
+    assert(/No sending life counts it/.test(between(unsent) ?? ""));
+});
+
 test("a bit that was changed, and a message that was passed over, are said", () => {
     const other = octets.replace("open 4849\nlife", "open 4848\nlife");
     assert.deepEqual(printed(other, 13)?.filter((it) => /formed|streams/.test(it)), [

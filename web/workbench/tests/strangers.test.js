@@ -17,6 +17,7 @@ import { waitsOf } from "../waits.js";
 import { behind, historyInRounds, historyOf, historyOfText, PATIENT, program, run } from "./examples.js";
 
 const ROW = ["[[imp]]", "id = 1", "hosts = 1", "[[imp]]", "id = 2", "hosts = 2", "foreign = [1]"];
+const STRANGERS = ["[[imp]]", "id = 1", "hosts = 1", "foreign = [0]", ...ROW.slice(3)];
 const JOINED = ["[[line]]", "a = 1", "b = 2"];
 const RST = "out 1/2 0/1 0 48 00080001000C";
 
@@ -90,12 +91,14 @@ test("who contacts a stranger waits for its RRP, and not for it to start, unless
     assert(!isBad && /its RST/.test(String(why)), "what is under way comes first");
 });
 
-test("a calm ends with its rest; while something waits for a stranger it lasts, and is shown in part", async () => {
+test("a calm ends with its rest; while a message has no place at a stranger's IMP it lasts, and is shown in part", async () => {
     const calm = "calm 4294967295";
-    const history = await among([calm]);
+    const history = await among(["calm 3", "contact 0/1 1/2", calm]);
     assert.equal(history.replay.cut, "");
     assert(history.length > 5);
-    const waiting = ['carrier = "plain"', ...ROW, "%", "contact 0/1 1/2", calm, ""].join("\n");
+    // 16 messages can wait for a host
+    const many = Array.from({ length: 17 }, (_, link) => `out 0/1 1/2 ${link} 0 -`);
+    const waiting = [...STRANGERS, ...JOINED, "%", "calm 3", ...many, calm, ""].join("\n");
     /** @type {typeof run} */
     const hasty = (words, input, limits, heard) => {
         const isLong = words[0] === "--trace" && new TextDecoder().decode(input).includes(calm);
@@ -105,12 +108,9 @@ test("a calm ends with its rest; while something waits for a stranger it lasts, 
     assert(isReplay(stopped));
     assert(/is shown as `calm 60`\.$/.test(stopped.cut), stopped.cut);
     assert(stopped.moments.length > 0);
-    const later = ["calm 3", "listen 0/1 16 8", "out 1/2 0/1 0 48 00080001000C", "calm 5", "contact 0/1 1/2"];
-    const shown = await replay(hasty, inputOf([...later, calm]), PATIENT);
-    assert(isReplay(shown));
-    const seen = new Set(shown.moments.map(({ event }) => event));
-    assert.deepEqual([...seen], [0, 1, 2, 3, 4], "what was before the calm is shown");
-    assert(/`calm 4294967295` in line 6 is shown as `calm 60`/.test(shown.cut), shown.cut);
+    const seen = new Set(stopped.moments.map(({ event }) => event));
+    assert.deepEqual([...seen].slice(0, 18), [...Array(18).keys()], "what was before the calm is shown");
+    assert(/`calm 4294967295` in line 19 is shown as `calm 60`/.test(stopped.cut), stopped.cut);
 });
 
 test("a stranger is asked what it sends, and hosts with programs aren't", async () => {

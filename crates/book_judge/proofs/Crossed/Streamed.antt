@@ -214,8 +214,8 @@ numbered comes log n f was is k h = by (map.get was.numbers f) refl k where
   by None e r = numbered_new comes log n f was is h r.0 r.1 r.2.0 r.2.1 r.2.2 e
   by (Some i) e r = subst (λ (j : Joined). Numbered comes log n f j) (sym r.1) (named_stream comes log n f was h (e ∙ ap (λ (x : ℕ). Some x) (sym r.0)))
 
--- the stream of one number is another now
-pub record IsChanged (n : ℕ) (s : Stream) (was is : List Stream) : Type 0 where
+-- the one with a number is another now
+pub record IsChanged {X : Type 0} (n : ℕ) (s : X) (was is : List X) : Type 0 where
   pub here : slice_get is n ≡ Some s
   pub others : (i : ℕ) → (i ≡ n → ⊥) → slice_get is i ≡ slice_get was i
 
@@ -584,8 +584,8 @@ pub numbered_at : (comes : Bool) (log : List Crossing) (place n : ℕ) (f : Flow
     → HasNumber n f was is → AreJoined comes (take place log) was → n < length is.streams.items
 numbered_at comes log place n f was is k h = (numbered comes (take place log) n f was is k h).there
 
--- one stream of several is another
-changed_at : (xs : List Stream) (n : ℕ) (s : Stream) → n < length xs → IsChanged n s xs (slice_set xs n s)
+-- one of several is another
+pub changed_at : {X : Type 0} (xs : List X) (n : ℕ) (s : X) → n < length xs → IsChanged n s xs (slice_set xs n s)
 changed_at [] n s less = absurd (omega (arith, less))
 changed_at (x ∷ xs) zero s less = record { here = refl; others = λ i other. same i other } where
   same : (i : ℕ) → (i ≡ 0 → ⊥) → slice_get (s ∷ xs) i ≡ slice_get (x ∷ xs) i

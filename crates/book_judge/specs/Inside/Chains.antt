@@ -1,5 +1,5 @@
 -- Lives by their own requests, and the tests by which streams, grants and closes are judged. No public clause cites this file.
-use Rattle.std.specs.Prelude.{◌≡◌, ℕ, ◌<◌, ◌≤◌, ◌+◌, ◌==◌, ◌&&◌, nat_le, Bool, true, false, List, [], length, slice_get, Option, Some, None}
+use Rattle.std.specs.Prelude.{◌≡◌, ℕ, ◌<◌, ◌≤◌, ◌+◌, ◌==◌, ◌&&◌, nat_le, min, Bool, true, false, List, [], length, slice_get, Option, Some, None}
 use Rattle.std.specs.FinMap as map
 use Rattle.std.specs.Ordering.{nat_cmp}
 use Rattle.interface.specs.Host.{same_host}
@@ -55,6 +55,12 @@ repeats a x b y = same_name a b && same_name (own_request x) (own_request y) && 
 abbrev pub FoundFirst : (ℕ → Type 0) → ℕ → Option ℕ → Type 0
 FoundFirst Holds n None = (i : ℕ) → i < n → Holds i
 FoundFirst Holds n (Some place) = (place < n) × ((i : ℕ) → i < place → Holds i) × (Holds place → ⊥)
+
+-- the first of two places
+abbrev pub first_of : Option ℕ → Option ℕ → Option ℕ
+first_of None b = b
+first_of (Some a) None = Some a
+first_of (Some a) (Some b) = Some (min a b)
 
 -- whether this many messages and bits, with what was returned, are no more than what a receiving life granted
 abbrev pub is_granted : Life → ℕ → ℕ → Bool

@@ -1,10 +1,10 @@
 -- What the contracts of the parts of a judgement say. No public clause cites this file.
 use Rattle.std.specs.Prelude.{Bool, List, MatchOption, Option, length}
 use Rattle.interface.specs.declared.crossing.Crossing.{Crossing}
-use Rattle.net_sim.specs.Findings.{AreFed, ShowsLife, ShowsTwo, first_fed, first_granted}
+use Rattle.net_sim.specs.Findings.{AreFed, ShowsLife, ShowsTwo, first_fed}
 use Rattle.net_sim.specs.declared.auditing.findings.Finding.{Finding}
 use Rattle.promise.specs.Fates.{ClosesWhole}
-use Rattle.promise.specs.Safe.{Name, SafeGrants, SafePartners}
+use Rattle.promise.specs.Safe.{Name, SafePartners}
 use Rattle.promise.specs.declared.life.Fate.{Fate}
 use Rattle.promise.specs.declared.life.Life.{Life}
 use Rattle.book_judge.specs.Broken.{first_closed}
@@ -20,10 +20,6 @@ abbrev pub TellsStreams : Option Finding → List Name → List Life → List (L
 TellsStreams found names lives handed =
     (log : List Crossing) → AreNamed (length lives) names lives log
     → MatchOption found (AreFed log lives lives handed) (λ at. ShowsLife (first_fed log lives handed) at log lives)
-
-abbrev pub TellsGrants : Option Finding → List Name → List Life → Type 0
-TellsGrants found names lives =
-    (log : List Crossing) → AreNamed (length lives) names lives log → MatchOption found (SafeGrants log lives) (λ at. ShowsLife (first_granted log lives) at log lives)
 
 abbrev pub TellsCloses : Option Finding → List Name → List Life → List (List Bool) → List Fate → Type 0
 TellsCloses found names lives handed fates =

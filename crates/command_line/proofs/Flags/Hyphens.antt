@@ -1,9 +1,10 @@
 -- Words that begin with two hyphens.
-use Rattle.command_line.proofs.Common.{◌≡◌, ℕ, Bool, true, false, [], ◌∷◌, ◌==◌, ◌||◌, Some, None, if◌then◌else◌, take, refl, sym, ap, ◌∙◌, arith, false≢true, list_any, option_and_then, long_of}
-use Rattle.std.proofs.Common.{suc}
+use Rattle.std.proofs.Common.{◌≡◌, ℕ, Bool, true, false, [], ◌∷◌, ◌==◌, ◌||◌, Some, None, if◌then◌else◌, take, refl, sym, ap, ◌∙◌, arith, suc}
+use Rattle.std.proofs.lemmas.Bool.{false≢true}
+use Rattle.std.specs.List.{list_any, before_first, position_or_len}
+use Rattle.std.specs.Option.{option_and_then}
+use Rattle.clap.specs.Lexer.{long_of, long_of_rest, name_and_value, has_byte, strip_byte}
 use Rattle.std.proofs.lemmas.Bool.Decides.{nat_tests}
-use Rattle.std.specs.List.{before_first, position_or_len}
-use Rattle.clap.specs.Lexer.{long_of_rest, name_and_value, has_byte, strip_byte}
 use Rattle.clap.specs.Walk.{Text}
 
 -- a list in which nothing passes a test is its own prefix

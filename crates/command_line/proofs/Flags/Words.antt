@@ -1,34 +1,26 @@
 -- What the parser of arguments makes of the three flags.
-use Rattle.command_line.proofs.Common.{◌≡◌, ◌≢◌, ◌⊎◌, ◌||◌, not, ℕ, Bool, true, false, if◌then◌else◌, List, [], ◌∷◌}
-use Rattle.command_line.proofs.Common.{◌++◌, Option, Some, None, codes, subst, refl, sym, ap, ◌∙◌, inl, inr, false≢true}
-use Rattle.command_line.proofs.Common.{bytes_eq, list_any, option_and_then, HasKind, long_of, one_of, kind_of}
-use Rattle.command_line.proofs.Common.{command_line}
+use Rattle.command_line.proofs.Common.{false≢true, list_any}
+use Rattle.std.proofs.Common.{◌≡◌, ◌≢◌, ◌⊎◌, ◌||◌, not, ℕ, Bool, true, false, if◌then◌else◌, List, [], ◌∷◌, ◌++◌, Option, Some, None, codes, subst, refl, sym, ap, ◌∙◌, inl, inr, ◌&&◌, find, is_some, fold}
+use Rattle.std.specs.Str.{bytes_eq, chars}
+use Rattle.std.specs.Option.{option_and_then, option_or}
+use Rattle.clap.specs.Kinds.{HasKind, Kinds, or_else}
+use Rattle.clap.specs.Lexer.{long_of, short_of}
+use Rattle.clap.specs.Walk.{one_of, Held, Outcome, Row, Rule, Text, Walk, at_row, finished, has_row, is_empty, more_values, row_text, settled, with_default, with_values, without, walk_from, walked, after_flag, bundle_met, bundle_step, idle, long_or_other, plain}
+use Rattle.clap.specs.Values.{kind_of, reading_of}
+use Rattle.command_line.specs.Parser.{command_line, flag}
 use Rattle.command_line.specs.declared.options.Options.{Options}
-use Rattle.command_line.specs.Options.{options_of}
-use Rattle.std.proofs.Common.{◌&&◌, find, is_some, fold}
+use Rattle.command_line.specs.Options.{options_of, options_after, with_word}
 use Rattle.std.proofs.lemmas.List.{append-nil}
 use Rattle.std.proofs.lemmas.Slice.Eq.{bytes_eq-Decides}
 use Rattle.std.specs.Prelude.{slice_get, length, zero, suc}
-use Rattle.std.specs.Str.{chars}
-use Rattle.std.specs.Option.{option_or}
-use Rattle.clap.specs.Kinds.{Kinds, or_else}
-use Rattle.clap.specs.Faults.{bundle_fault, check_fault, default_fault, defaults_fault, given_default_fault}
-use Rattle.clap.specs.Faults.{repeat_fault, entered_fault, fault_of, flag_word_fault, is_simple_and_free, settle_fault}
-use Rattle.clap.specs.Faults.{step_fault, turn_fault, walk_fault}
-use Rattle.clap.specs.Lexer.{short_of}
+use Rattle.clap.specs.Faults.{bundle_fault, check_fault, default_fault, defaults_fault, given_default_fault, repeat_fault, entered_fault, fault_of, flag_word_fault, is_simple_and_free, settle_fault, step_fault, turn_fault, walk_fault}
 use Rattle.clap.specs.Simple.{Shape, built, entered, filled, matches_of}
-use Rattle.clap.specs.Walk.{Held, Outcome, Row, Rule, Text, Walk, at_row, finished, has_row, is_empty, more_values}
-use Rattle.clap.specs.Walk.{row_text, settled, with_default, with_values, without, walk_from, walked, after_flag}
-use Rattle.clap.specs.Walk.{bundle_met, bundle_step, idle, long_or_other, plain}
 use Rattle.clap.specs.declared.error.Error.{Error}
 use Rattle.clap.specs.declared.error.kind.ErrorKind.{ErrorKind}
 use Rattle.clap.specs.declared.error.kind.ErrorKind.TheVariants as kind
 use Rattle.clap.proofs.OnLiterals.{clap_on_literals}
-use Rattle.clap.specs.Values.{reading_of}
 use Rattle.clap.specs.declared.builder.value_parser.ValueParser.TheVariants as parser
 use Rattle.clap.specs.declared.parser.matches.ValueSource.TheVariants.{CommandLine, DefaultValue}
-use Rattle.command_line.specs.Options.{options_after, with_word}
-use Rattle.command_line.specs.Parser.{flag}
 use Rattle.command_line.proofs.Flags.Hyphens.{long_is}
 
 abbrev pub shape : Shape

@@ -1,20 +1,19 @@
 -- A replay over the carrier of a topology continues, and ends.
-use Rattle.command_line.proofs.Common.{◌≡◌, ◌⊎◌, inl, inr, ℕ, Bool, List, [], ◌++◌, Option, Result, OnOk, codes, ap}
-use Rattle.command_line.proofs.Common.{sym, subst, ◌∙◌, Appends, Keeps, WorldKeeps, IsRun, SafeMessages, shown}
-use Rattle.command_line.proofs.Common.{WorldState, opening_world, Life, Writes, crossings_of, output, Calls, Detail}
-use Rattle.command_line.proofs.Common.{RawEvent, TopologyFields, CarrierKind, WorldEvent, LogsOn, LogsOver, ReplaysOn}
-use Rattle.command_line.proofs.Common.{ReplaysOver, ShowsBook, ShowsFrom, StopsFrom, WorldShowsFrom, WorldStopsFrom}
-use Rattle.command_line.proofs.Common.{book_text, appends_more, WritesWorld}
-use Rattle.std.proofs.Common.{reverse}
+use Rattle.command_line.proofs.Common.{Appends, Keeps, WorldKeeps, IsRun, SafeMessages, shown, WorldState, opening_world, Life, Calls, Detail, RawEvent, TopologyFields, CarrierKind, Host, WorldEvent, WritesWorld, book_text, subnet_calls, subnet_of}
+use Rattle.std.proofs.Common.{◌≡◌, ◌⊎◌, inl, inr, ℕ, Bool, List, [], ◌++◌, Option, Result, OnOk, codes, ap, sym, subst, ◌∙◌, reverse}
+use Rattle.replay.specs.Output.{Writes, crossings_of, output}
+use Rattle.command_line.specs.Logs.{LogsFrom, LogsOn, LogsOver}
+use Rattle.command_line.specs.Replayed.{EndsFrom, ReplaysFrom, ReplaysOn, ReplaysOver, ShowsBook, ShowsFrom, StopsFrom, WorldShowsFrom, WorldStopsFrom, EndsOn, EndsOver, WritesAll}
+use Rattle.replay.proofs.lemmas.{appends_more, replays_show, stops_show}
 use Rattle.std.proofs.lemmas.List.{append-nil}
 use Rattle.net_sim.specs.Book.{Kept, opening_kept}
 use Rattle.replay.specs.Replay.{EndsIn, Replays, StopsIn}
-use Rattle.replay.proofs.lemmas.{replays_show, stops_show}
+use Rattle.subnet.specs.Calls as subnet
+use Rattle.topology.specs.declared.network.CarrierKind.TheVariants as kind
 use Rattle.world_replay.specs.Output as lines
 use Rattle.world_replay.specs.Replay as worlds
 use Rattle.world_replay.proofs.lemmas.Gained as world
 use Rattle.command_line.specs.Events.{Asked}
-use Rattle.command_line.specs.Replayed.{EndsOn, EndsOver, WritesAll}
 
 -- ---- without host programs
 
@@ -92,12 +91,40 @@ world_writes_part {C} calls carrier opening last events detail a b is h promise 
 
 -- ---- over the carrier that a topology names
 
-pub over_part : (carrier : CarrierKind) (network : TopologyFields) (detail : Detail) (events : Asked) (a b : Option (List ℕ)) → network.carrier ≡ carrier → (Keeps a b ⊎ EndsOver carrier network detail events a b) → Keeps a b ⊎ EndsOn network detail events a b
+over_part : (carrier : CarrierKind) (network : TopologyFields) (detail : Detail) (events : Asked) (a b : Option (List ℕ)) → network.carrier ≡ carrier → (Keeps a b ⊎ EndsOver carrier network detail events a b) → Keeps a b ⊎ EndsOn network detail events a b
 over_part carrier network detail events a b is (inl kept) = inl kept
 over_part carrier network detail events a b is (inr h) = inr (subst (λ (k : CarrierKind). EndsOver k network detail events a b) (sym is) h)
 
-pub over_all : {A E : Type 0} (carrier : CarrierKind) (network : TopologyFields) (book : Bool) (detail : Detail) (events : Asked) (a b : Option (List ℕ)) (r : Result A E) → network.carrier ≡ carrier → OnOk r (ReplaysOver carrier network book detail events a b) → OnOk r (ReplaysOn network book detail events a b)
+over_all : {A E : Type 0} (carrier : CarrierKind) (network : TopologyFields) (book : Bool) (detail : Detail) (events : Asked) (a b : Option (List ℕ)) (r : Result A E) → network.carrier ≡ carrier → OnOk r (ReplaysOver carrier network book detail events a b) → OnOk r (ReplaysOn network book detail events a b)
 over_all carrier network book detail events a b r is h = subst (λ (k : CarrierKind). OnOk r (ReplaysOver k network book detail events a b)) (sym is) h
 
-pub logged_over : {A E : Type 0} (carrier : CarrierKind) (network : TopologyFields) (events : Asked) (a b : Option (List ℕ)) (r : Result A E) → network.carrier ≡ carrier → OnOk r (LogsOver carrier network events a b) → OnOk r (LogsOn network events a b)
+logged_over : {A E : Type 0} (carrier : CarrierKind) (network : TopologyFields) (events : Asked) (a b : Option (List ℕ)) (r : Result A E) → network.carrier ≡ carrier → OnOk r (LogsOver carrier network events a b) → OnOk r (LogsOn network events a b)
 logged_over carrier network events a b r is h = subst (λ (k : CarrierKind). OnOk r (LogsOver k network events a b)) (sym is) h
+
+-- such a subnet, with such hosts as strangers, is what the topology names
+subnet_named : (t : TopologyFields) (k : subnet.Kept) (named : List Host) (F : List Host → subnet.Kept → Type 0)
+    → k ≡ subnet_of t → named ≡ t.strangers → F named k → F t.strangers (subnet_of t)
+subnet_named t k named F at same h = subst (λ (hosts : List Host). F hosts (subnet_of t)) same
+    (subst (λ (x : subnet.Kept). F named x) at h)
+
+pub subnet_part : (t : TopologyFields) (k : subnet.Kept) (named : List Host) (detail : Detail) (events : Asked)
+    (a b : Option (List ℕ)) → t.carrier ≡ kind.Subnet → k ≡ subnet_of t → named ≡ t.strangers
+    → Keeps a b ⊎ EndsFrom subnet_calls named k detail events a b → Keeps a b ⊎ EndsOn t detail events a b
+subnet_part t k named detail events a b is at same h =
+    over_part kind.Subnet t detail events a b is
+    (subnet_named t k named (λ hosts x. Keeps a b ⊎ EndsFrom subnet_calls hosts x detail events a b) at same h)
+
+pub subnet_all : {A E : Type 0} (t : TopologyFields) (k : subnet.Kept) (named : List Host) (book : Bool) (detail : Detail)
+    (events : Asked) (a b : Option (List ℕ)) (r : Result A E) → t.carrier ≡ kind.Subnet → k ≡ subnet_of t
+    → named ≡ t.strangers → OnOk r (ReplaysFrom subnet_calls named k book detail events a b)
+    → OnOk r (ReplaysOn t book detail events a b)
+subnet_all t k named book detail events a b r is at same h =
+    over_all kind.Subnet t book detail events a b r is
+    (subnet_named t k named (λ hosts x. OnOk r (ReplaysFrom subnet_calls hosts x book detail events a b)) at same h)
+
+pub subnet_logged : {A E : Type 0} (t : TopologyFields) (k : subnet.Kept) (named : List Host) (events : Asked)
+    (a b : Option (List ℕ)) (r : Result A E) → t.carrier ≡ kind.Subnet → k ≡ subnet_of t → named ≡ t.strangers
+    → OnOk r (LogsFrom subnet_calls named k events a b) → OnOk r (LogsOn t events a b)
+subnet_logged t k named events a b r is at same h =
+    logged_over kind.Subnet t events a b r is
+    (subnet_named t k named (λ hosts x. OnOk r (LogsFrom subnet_calls hosts x events a b)) at same h)

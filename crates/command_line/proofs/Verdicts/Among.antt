@@ -1,16 +1,9 @@
 -- The lives of a log among hosts with programs, and their places.
-use Rattle.command_line.proofs.Common.{◌≡◌, ℕ, ◌+◌, ◌<◌, ◌++◌, Bool, true, false, List, [], ◌∷◌, map, refl, sym, ap}
-use Rattle.command_line.proofs.Common.{ap₂, subst, ◌∙◌, arith, append_assoc, if◌then◌else◌, Contains, Crossing, Life}
-use Rattle.command_line.proofs.Common.{false≢true}
-use Rattle.std.proofs.Common.{length, zero, suc, Some, None, ◌-◌, ◌≤◌, drop, get_or, inl, inr, append-nil}
-use Rattle.std.proofs.lemmas.List.{drop_all, drop_more}
+use Rattle.command_line.proofs.Common.{Contains, Crossing, Life, false≢true, AreToward, contains_head, contains_tail, Host, is_host, beside_among, is_among, lives_among, IsWellFormed}
+use Rattle.std.proofs.Common.{◌≡◌, ℕ, ◌+◌, ◌<◌, ◌++◌, Bool, true, false, List, [], ◌∷◌, map, refl, sym, ap, ap₂, subst, ◌∙◌, arith, if◌then◌else◌, length, zero, suc, Some, None, ◌-◌, ◌≤◌, drop, get_or, inl, inr, append-nil}
+use Rattle.std.proofs.lemmas.List.{append_assoc, drop_all, drop_more}
 use Rattle.std.proofs.lemmas.Option.{none-some, same_Some}
 use Rattle.book_judge.proofs.lemmas.{contains_cases}
-use Rattle.book_judge.specs.Toward.{AreToward}
-use Rattle.interface.proofs.lemmas.{contains_head, contains_tail}
-use Rattle.interface.specs.Host.{Host, is_host}
-use Rattle.mixed_worlds.specs.Book.{beside_among, is_among, lives_among}
-use Rattle.net_sim.specs.Audit.{IsWellFormed}
 use Rattle.command_line.specs.Audits.{first_counts, kept_by, passed_one, place_in}
 
 -- of each life whether it is among hosts with programs

@@ -1,10 +1,9 @@
 -- What is written of a log is what its audit says.
+use Rattle.command_line.proofs.Common.{false≢true, append_assoc, Appends, Keeps, Crossing, Fate, Life, Finding, Verdict, AuditFault, Host, is_host}
 use Rattle.book_log.proofs.lemmas.{log_some, ran_some}
-use Rattle.command_line.proofs.Common.{◌≡◌, ◌≢◌, ℕ, Bool, true, false, List, [], ◌++◌, Option, Some, None, IfSome, Result, Ok, Err, MatchResult, OnOk, ap, codes, refl, sym, ◌∙◌, subst, false≢true, append_assoc, Appends, Keeps, IsLog, fates_of, lives_of, Crossing, Fate, Life, AuditsLog, IsAuditFault, IsBookFault, IsSomeLog, Judged, SaysOf, Finding, Verdict, AuditFault}
-use Rattle.book_log.specs.Log.{Book}
-use Rattle.interface.specs.Host.{Host, is_host}
-use Rattle.command_line.specs.Audits.{Audited, IsLogReadFault, Layout, closes_text, life_at, lines_of, lines_text, sent_text}
-use Rattle.command_line.specs.Audits.{toward_text, verdict_text}
+use Rattle.std.proofs.Common.{◌≡◌, ◌≢◌, ℕ, Bool, true, false, List, [], ◌++◌, Option, Some, None, IfSome, Result, Ok, Err, MatchResult, OnOk, ap, codes, refl, sym, ◌∙◌, subst}
+use Rattle.book_log.specs.Log.{IsLog, fates_of, lives_of, Book}
+use Rattle.command_line.specs.Audits.{AuditsLog, IsAuditFault, IsBookFault, IsSomeLog, Judged, SaysOf, Audited, IsLogReadFault, Layout, closes_text, life_at, lines_of, lines_text, sent_text, toward_text, verdict_text}
 use Rattle.std.specs.Fmt.{decimal}
 use Rattle.std.specs.Prelude.{[]}
 use Rattle.command_line.specs.declared.verdict.Lines.{Lines}

@@ -1,12 +1,10 @@
 -- The word at the end of an audit says which parts hold.
-use Rattle.command_line.proofs.Common.{◌≡◌, ℕ, Bool, true, false, List, [], ◌∷◌, ◌==◌, Option, Some, None, codes}
-use Rattle.command_line.proofs.Common.{if◌then◌else◌, refl, ap, sym, false≢true, fates_of, lives_of, SaysOf, Verdict}
-use Rattle.command_line.proofs.Common.{word_text}
+use Rattle.command_line.proofs.Common.{false≢true, Verdict, Host, is_host}
+use Rattle.std.proofs.Common.{◌≡◌, ℕ, Bool, true, false, List, [], ◌∷◌, ◌==◌, Option, Some, None, codes, if◌then◌else◌, refl, ap, sym}
+use Rattle.book_log.specs.Log.{fates_of, lives_of, Book}
+use Rattle.command_line.specs.Audits.{SaysOf, word_text, IsSafeLog, KeepsEnds, is_safe, keeps_ends}
 use Rattle.interface.proofs.lemmas.{and_true}
 use Rattle.std.specs.Prelude.{◌&&◌, ◌↔◌, is_none}
-use Rattle.book_log.specs.Log.{Book}
-use Rattle.interface.specs.Host.{Host, is_host}
-use Rattle.command_line.specs.Audits.{IsSafeLog, KeepsEnds, is_safe, keeps_ends}
 use Rattle.command_line.proofs.Verdicts.Named.{closes_named, fates_named, formed_named, grants_named, lives_named}
 use Rattle.command_line.proofs.Verdicts.Named.{messages_named, partners_named, run_named, sent_named, streams_named}
 use Rattle.command_line.proofs.Verdicts.Named.{toward_named}

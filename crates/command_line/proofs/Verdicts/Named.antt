@@ -1,31 +1,19 @@
 -- What an audit names is broken: a part that holds of all holds of the first of them.
-use Rattle.command_line.proofs.Common.{◌≡◌, ℕ, ◌+◌, Bool, List, [], ◌∷◌, ◌++◌, take, Option, Some, None, arith, inl, inr, refl, ap, sym, subst, ◌∙◌, Contains, append_assoc, AreSuited, IsSomeRun, SafeMessages, Crossing, Says, Finding, AreTwo, ClosesWhole, Fate, Life, Judged, kept, Verdict}
-use Rattle.std.proofs.Common.{reverse}
-use Rattle.book_judge.specs.Lives.{AreMade}
-use Rattle.std.proofs.Common.{zero, suc, ◌-◌, length, drop}
-use Rattle.std.proofs.Common.{MatchOption}
+use Rattle.command_line.proofs.Common.{Contains, AreSuited, UnsuitedAt, IsSomeRun, StraysAt, SafeMessages, Crossing, Says, IsWellFormed, Finding, ClosesWhole, Fate, Life, Verdict, AreMade, UnmadeAt, IfFormed, KeepsGrants, first_closed, first_grants, first_sent, AreToward, UntowardAt, Host, beside_among, lives_among, EachIsWithin, EachWasSent}
+use Rattle.std.proofs.Common.{◌≡◌, ℕ, ◌+◌, Bool, List, [], ◌∷◌, ◌++◌, take, Option, Some, None, arith, inl, inr, refl, ap, sym, subst, ◌∙◌, reverse, zero, suc, ◌-◌, length, drop, MatchOption}
+use Rattle.std.proofs.lemmas.List.{append_assoc, take-append-drop}
+use Rattle.promise.specs.Safe.{AreTwo, SafeBook, AreHanded, Name, SafePartners, SafeStreams, own_request}
+use Rattle.command_line.specs.Audits.{Judged, kept}
 use Rattle.std.specs.Prelude.{◌↔◌}
-use Rattle.std.proofs.lemmas.List.{take-append-drop}
 use Rattle.std.proofs.lemmas.List.Elements.{Contains-append_left}
-use Rattle.book_judge.specs.Broken.{IfFormed, first_closed, first_sent}
-use Rattle.book_judge.specs.Fates.{UnsuitedAt}
-use Rattle.book_judge.specs.Lives.{UnmadeAt}
-use Rattle.book_judge.specs.Runs.{StraysAt}
 use Rattle.book_judge.proofs.lemmas.{closed_front, made_front, run_front, suited_front, toward_front}
-use Rattle.book_judge.specs.Toward.{AreToward, UntowardAt}
-use Rattle.interface.specs.Host.{Host}
-use Rattle.mixed_worlds.specs.Book.{beside_among, lives_among}
-use Rattle.promise.specs.Safe.{SafeBook}
-use Rattle.world_keeps_streams.specs.Sent.{EachWasSent}
 use Rattle.command_line.proofs.Verdicts.Among.{formed_among}
 use Rattle.interface.proofs.lemmas.{safe_messages}
 use Rattle.interface.specs.declared.crossing.Answer.TheVariants as answer
 use Rattle.interface.specs.declared.crossing.Crossing.TheVariants as crossing
-use Rattle.net_sim.specs.Audit.{IsWellFormed}
-use Rattle.net_sim.specs.Findings.{AreFed, ShowsCrossing, ShowsLife, ShowsMalformed, ShowsTwo, first_fed, first_granted}
+use Rattle.net_sim.specs.Findings.{AreFed, ShowsCrossing, ShowsLife, ShowsMalformed, ShowsTwo, first_fed}
 use Rattle.net_sim.specs.declared.auditing.findings.Finding.TheVariants as finding
 use Rattle.net_sim.specs.declared.auditing.said.Audit.TheVariants as audit
-use Rattle.promise.specs.Safe.{AreHanded, Name, SafeGrants, SafePartners, SafeStreams, own_request}
 
 contains_front : {X : Type 0} (n : ℕ) (xs : List X) (x : X) → Contains (take n xs) x → Contains xs x
 contains_front {X} n xs x c =
@@ -116,14 +104,16 @@ shown_streams found log lives handed f h =
       sent = handed_front (h.place + 1) lives handed f.sent;
     })
 
-shown_grants : (found : Finding) (log : List Crossing) (lives : List Life) → SafeGrants log lives
-    → ShowsLife (first_granted log lives) found log lives → ⊥
+shown_grants : (found : Finding) (log : List Crossing) (lives : List Life) → KeepsGrants log lives
+    → ShowsLife (first_grants log lives) found log lives → ⊥
 shown_grants found log lives g h =
-    h.first.1
-    (record {
-      taken = λ x c r. g.taken x (contains_front (h.place + 1) lives x c) r;
-      sent = λ x y c d m. g.sent x y (contains_front (h.place + 1) lives x c) d m;
-    })
+    h.first.1 (
+      record {
+        taken = λ x c r. g.counted.taken x (contains_front (h.place + 1) lives x c) r;
+        sent = λ x y c d m. g.counted.sent x y (contains_front (h.place + 1) lives x c) d m;
+      },
+      λ x link there sending named. g.crossed x link (contains_front (h.place + 1) lives x there) sending named,
+    )
 
 shown_sent : (found : Finding) (log : List Crossing) (lives : List Life) → EachWasSent log lives
     → ShowsLife (first_sent log lives) found log lives → ⊥
@@ -209,12 +199,12 @@ streams_named v strange log lives handed fates j e =
 pub grants_named : (v : Verdict) (strange : Host → Bool) (log : List Crossing) (lives : List Life)
     (handed : List (List Bool)) (fates : List Fate)
     → Judged v strange log lives handed fates → v.malformed ≡ None
-    → (v.grants ≡ None) ↔ SafeGrants (reverse log) (lives_among strange lives)
+    → (v.grants ≡ None) ↔ KeepsGrants (reverse log) (lives_among strange lives)
 grants_named v strange log lives handed fates j e =
     let xs : List Life = some strange lives in
-    unnamed v.grants (λ found. ShowsLife (first_granted (reverse log) xs) found (reverse log) xs)
+    unnamed v.grants (λ found. ShowsLife (first_grants (reverse log) xs) found (reverse log) xs)
     (λ found g h. shown_grants found (reverse log) xs g h)
-    (looked_at v.malformed v.grants (SafeGrants (reverse log) xs) (λ found. ShowsLife (first_granted (reverse log) xs) found (reverse log) xs) e j.grants)
+    (looked_at v.malformed v.grants (KeepsGrants (reverse log) xs) (λ found. ShowsLife (first_grants (reverse log) xs) found (reverse log) xs) e j.grants)
 
 pub sent_named : (v : Verdict) (strange : Host → Bool) (log : List Crossing) (lives : List Life)
     (handed : List (List Bool)) (fates : List Fate)
@@ -278,18 +268,18 @@ pub kept_from_safe : (strange : Host → Bool) (log : List Crossing) (lives : Li
     → IsSomeRun (reverse log) → AreMade (reverse log) (lives_among strange lives)
     → IsWellFormed (reverse log) lives handed
     → SafeBook (reverse log) (lives_among strange lives) (beside_among strange lives handed)
-    → EachWasSent (reverse log) (lives_among strange lives)
+    → EachIsWithin (reverse log) (lives_among strange lives) → EachWasSent (reverse log) (lives_among strange lives)
     → ClosesWhole (reverse log) (lives_among strange lives) (beside_among strange lives handed) (beside_among strange lives fates)
     → AreSuited (reverse log) (lives_among strange lives) (beside_among strange lives fates)
     → AreToward strange lives handed → Judged kept strange log lives handed fates
-kept_from_safe strange log lives handed fates run made formed safe sent closes suited toward = record {
+kept_from_safe strange log lives handed fates run made formed safe within sent closes suited toward = record {
   run = run;
   made = made;
   formed = formed;
   messages = safe.messages;
   partners = safe.partners;
   streams = record { source = safe.streams.source; sent = safe.streams.sent };
-  grants = safe.grants;
+  grants = record { counted = safe.grants; crossed = within };
   sent = sent;
   closes = closes;
   suited = suited;
@@ -318,7 +308,7 @@ safe_from_kept strange log lives handed fates j = (
     messages = j.messages;
     partners = j.partners;
     streams = streams_safe (reverse log) (some strange lives) (lists strange lives handed) j.partners j.streams;
-    grants = j.grants;
+    grants = j.grants.counted;
   },
 )
 

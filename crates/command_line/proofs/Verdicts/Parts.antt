@@ -1,19 +1,10 @@
 -- What is judged of the lives among hosts with programs is said of the whole log.
-use Rattle.command_line.proofs.Common.{◌≡◌, ℕ, Bool, List, Option, Some, None, ap, refl, subst, AreSuited, IsSomeRun}
-use Rattle.command_line.proofs.Common.{SafeMessages, Crossing, ClosesWhole, Fate, Host, Judged, Life, Finding, Verdict}
-use Rattle.std.proofs.Common.{MatchOption, reverse}
-use Rattle.book_judge.specs.Broken.{IfFormed, first_closed, first_sent}
-use Rattle.book_judge.specs.Fates.{UnsuitedAt}
-use Rattle.book_judge.specs.Lives.{AreMade, UnmadeAt}
-use Rattle.book_judge.specs.Runs.{StraysAt}
-use Rattle.book_judge.specs.Toward.{AreToward, UntowardAt}
+use Rattle.command_line.proofs.Common.{AreSuited, UnsuitedAt, IsSomeRun, StraysAt, SafeMessages, Crossing, ClosesWhole, Fate, Host, Life, Finding, Verdict, IfFormed, KeepsGrants, first_closed, first_grants, first_sent, AreMade, UnmadeAt, AreToward, UntowardAt, EachWasSent, beside_among, lives_among, IsWellFormed}
+use Rattle.std.proofs.Common.{◌≡◌, ℕ, Bool, List, Option, Some, None, ap, refl, subst, MatchOption, reverse}
+use Rattle.command_line.specs.Audits.{Judged, AreParts}
 use Rattle.book_judge.specs.declared.broken.Broken.{Broken}
-use Rattle.world_keeps_streams.specs.Sent.{EachWasSent}
-use Rattle.mixed_worlds.specs.Book.{beside_among, lives_among}
-use Rattle.net_sim.specs.Audit.{IsWellFormed}
-use Rattle.net_sim.specs.Findings.{AreFed, ShowsCrossing, ShowsLife, ShowsMalformed, ShowsTwo, first_fed, first_granted}
-use Rattle.promise.specs.Safe.{SafeGrants, SafePartners}
-use Rattle.command_line.specs.Audits.{AreParts}
+use Rattle.net_sim.specs.Findings.{AreFed, ShowsCrossing, ShowsLife, ShowsMalformed, ShowsTwo, first_fed}
+use Rattle.promise.specs.Safe.{SafePartners}
 use Rattle.command_line.proofs.Verdicts.Among.{formed_among}
 use Rattle.command_line.proofs.Verdicts.Named.{looked_at, shown_formed, unnamed}
 
@@ -23,8 +14,8 @@ pub record Parts (malformed : Option Finding) (b : Broken) (log : List Crossing)
   pub partners : IfFormed malformed b.partners (SafePartners log lives) (λ found. ShowsTwo found log lives)
   pub streams : IfFormed malformed b.streams (AreFed log lives lives handed)
       (λ found. ShowsLife (first_fed log lives handed) found log lives)
-  pub grants : IfFormed malformed b.grants (SafeGrants log lives)
-      (λ found. ShowsLife (first_granted log lives) found log lives)
+  pub grants : IfFormed malformed b.grants (KeepsGrants log lives)
+      (λ found. ShowsLife (first_grants log lives) found log lives)
   pub sent : IfFormed malformed b.sent (EachWasSent log lives)
       (λ found. ShowsLife (first_sent log lives) found log lives)
   pub closes : IfFormed malformed b.closes (ClosesWhole log lives handed fates)
@@ -38,7 +29,7 @@ parts_of None b log lives handed fates formed is =
     record {
       partners = looked_at b.malformed b.partners (SafePartners log lives) (λ found. ShowsTwo found log lives) none is.partners;
       streams = looked_at b.malformed b.streams (AreFed log lives lives handed) (λ found. ShowsLife (first_fed log lives handed) found log lives) none is.streams;
-      grants = looked_at b.malformed b.grants (SafeGrants log lives) (λ found. ShowsLife (first_granted log lives) found log lives) none is.grants;
+      grants = looked_at b.malformed b.grants (KeepsGrants log lives) (λ found. ShowsLife (first_grants log lives) found log lives) none is.grants;
       sent = looked_at b.malformed b.sent (EachWasSent log lives) (λ found. ShowsLife (first_sent log lives) found log lives) none is.sent;
       closes = looked_at b.malformed b.closes (ClosesWhole log lives handed fates) (λ found. ShowsLife (first_closed log lives handed fates) found log lives) none is.closes;
     }

@@ -11,7 +11,7 @@ use Rattle.link_table.specs.declared.destination.Fate.TheVariants as fate
 use Rattle.packetiser.specs.PacketFields.{PacketFields}
 use Rattle.imp_node.specs.Arrival.{arrival, from_line}
 use Rattle.imp_node.specs.Asking.{ask}
-use Rattle.imp_node.specs.Lines.{end_down, end_up, resend, route}
+use Rattle.imp_node.specs.Lines.{claim, end_down, end_up, resend, route}
 use Rattle.imp_node.specs.Moves.{ArrivalSays, Becomes, FrameMoves, OfferMoves, ReturningMoves, destination_down}
 use Rattle.imp_node.specs.Moves.{destination_up, sender_told, source_down, source_up, without_first}
 use Rattle.imp_node.specs.Offering.{from_host, way_of}
@@ -70,6 +70,7 @@ pub record Moving : Type 0 where
   -- the other calls move no flow
   pub resend : (s : State) → AllUnmoved s (resend s).state
   pub route : (s : State) → AllUnmoved s (route s).state
+  pub claim : (s : State) → AllUnmoved s (claim s).state
   pub end_down : (s : State) (k : ℕ) → AllUnmoved s (end_down s k).state
   pub end_up : (s : State) (k : ℕ) → AllUnmoved s (end_up s k).state
   pub abandon : (s : State) (f : Flow) → AllUnmoved s (abandon s f).state

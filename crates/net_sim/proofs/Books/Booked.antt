@@ -1,12 +1,12 @@
 -- The book has what crossed, after every list of events.
-use Rattle.net_sim.proofs.Common.{◌≡◌, ℕ, Bool, true, false, if◌then◌else◌, List, [], ◌∷◌, ◌++◌, length, Ok, refl, ap, sym, subst, ◌∙◌, Calls, Seen, ShowsRefusal, ShowsCrossings, halted, is_memory, crossing_of, step_crossings, Host, SafeMessages, CarrierFault, Crossing, HostMessage, run_below, safe_messages, NcpState, served, served_notices, offered, accepted, Notice, Request, ServiceDeskState, ServicesState, opening_desk, server_begun, user_begun, Kept, crossed, all_crossed, book_told, all_told, asked, all_asked, shown, AreOfOneEvent, Each, WorldState, opening_world, services_of, noticed, tended, with_carrier, world_moved, served_at, Halts, StepGives, RunGives, CalmGives}
+use Rattle.net_sim.proofs.Common.{◌≡◌, ℕ, Bool, true, false, if◌then◌else◌, List, [], ◌∷◌, ◌++◌, length, Ok, refl, ap, sym, subst, ◌∙◌, Calls, Seen, ShowsRefusal, ShowsCrossings, halted, is_memory, crossing_of, step_crossings, Host, SafeMessages, CarrierFault, Crossing, run_below, safe_messages, NcpState, served, served_notices, offered, accepted, Notice, Request, ServiceDeskState, ServicesState, opening_desk, server_begun, user_begun, Kept, crossed, all_crossed, book_told, all_told, asked, all_asked, shown, AreOfOneEvent, WorldState, opening_world, services_of, noticed, tended, with_carrier, world_moved, served_at, Halts, StepGives, TurnGives, RunGives, CalmGives}
 use Rattle.interface.specs.Mailboxes.{IsRun}
 use Rattle.interface.specs.declared.crossing.Crossing.TheVariants as crossing
 use Rattle.net_sim.specs.Carriers.{IsBooked}
-use Rattle.net_sim.proofs.Books.Always.{run_keeps, calm_keeps}
-use Rattle.net_sim.proofs.Books.EachEvent.{Answered, Shows, Ways, step_way}
-use Rattle.net_sim.proofs.Books.Strangers.{fetch_way, out_way}
-use Rattle.net_sim.specs.MixedWorlds.{FetchGives, OutGives, opening_among}
+use Rattle.net_sim.proofs.Books.Always.{all_named, calm_keeps, run_keeps}
+use Rattle.net_sim.proofs.Books.EachEvent.{Answered, Shows, Ways, turn_way}
+use Rattle.net_sim.proofs.Books.Strangers.{each_way}
+use Rattle.net_sim.specs.Steps.{opening_among}
 use Rattle.net_sim.specs.World.{Event, turn_of, changed}
 
 -- ---- the crossings of what is kept
@@ -124,30 +124,23 @@ module _ {C : Type 0} (own : Calls C) where
     user = λ h peer listen socket s old running has b. tended_books h (user_begun peer listen socket (services_of h old.services) (opening_desk h (noticed old) s)) old running b;
   }
 
-  pub step_books : (e : Event) (old : WorldState C) (r : Answered) (new : WorldState C) → IsBooked own.seen old → StepGives calls old e r new → IsBooked own.seen new
-  step_books e old r new b h = step_way (shown own) Logged log_shown Books books_ways e (λ is w k. k) old r new h b
+  pub turn_books : (e : Event) (old : WorldState C) (r : Answered) (new : WorldState C) → IsBooked own.seen old → TurnGives calls old e r new → IsBooked own.seen new
+  turn_books e old r new b h = turn_way (shown own) Logged log_shown Books books_ways e (λ is w k. k) old r new h b
 
   -- what a stranger sends or takes
   strange_books : (c : C) (x : Crossing) (old : WorldState C) → old.stopped ≡ false → Logged old.carrier c (x ∷ []) → Books old (Ok tt) (changed c (x ∷ []) old)
   strange_books c x old running log b = done_books old c (x ∷ []) (changed c (x ∷ []) old) b running log refl refl
 
-  pub out_books : (m : HostMessage) (old : WorldState C) (r : Answered) (new : WorldState C) → old.stopped ≡ false → IsBooked own.seen old → OutGives calls m old r new → IsBooked own.seen new
-  out_books m old r new running b h = out_way (shown own) Logged log_shown Books books_ways strange_books m old r new running h b
-
-  pub fetch_books : (h : Host) (old : WorldState C) (r : Answered) (new : WorldState C) → old.stopped ≡ false → IsBooked own.seen old → FetchGives calls h old r new → IsBooked own.seen new
-  fetch_books h old r new running b gives = fetch_way (shown own) Logged log_shown Books books_ways strange_books h old r new running gives b
+  pub step_books : (e : Event) (old : WorldState C) (r : Answered) (new : WorldState C) → IsBooked own.seen old → StepGives calls old e r new → IsBooked own.seen new
+  step_books e old r new b h = each_way (shown own) Logged log_shown Books books_ways strange_books (λ f w of k. k) e old r new h b
 
   -- ---- several events
 
-  all_named : (events : List Event) → Each (λ e. Unit {0}) events
-  all_named [] = tt
-  all_named (e ∷ events) = (tt, all_named events)
-
   pub run_books : (events : List Event) (old : WorldState C) (r : Answered) (new : WorldState C) → IsBooked own.seen old → RunGives calls old events r new → IsBooked own.seen new
-  run_books events old r new b h = run_keeps calls (IsBooked own.seen) (λ e. Unit {0}) tt (λ x. tt) (λ x. tt) (λ e v q w n. step_books e v q w) events old r new (all_named events) b h
+  run_books events old r new b h = run_keeps calls (IsBooked own.seen) (λ e. Unit {0}) (λ e v q w n. step_books e v q w) events old r new (all_named events) b h
 
   pub calm_books : (times : ℕ) (old : WorldState C) (r : Answered) (new : WorldState C) → IsBooked own.seen old → CalmGives calls times old r new → IsBooked own.seen new
-  calm_books times old r new b h = calm_keeps calls (IsBooked own.seen) (λ e. Unit {0}) tt (λ x. tt) (λ x. tt) (λ e v q w n. step_books e v q w) times old r new b h
+  calm_books times old r new b h = calm_keeps calls (IsBooked own.seen) (λ e. Unit {0}) tt (λ x. tt) (λ x. tt) (λ e v q w n. turn_books e v q w) times old r new b h
 
   -- ---- the opening
 

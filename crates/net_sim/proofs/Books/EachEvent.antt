@@ -1,6 +1,6 @@
 -- One walk over the events of a world: each ends in one of few ways, and a relation between the worlds before and after that each way
 -- keeps holds of every event.
-use Rattle.net_sim.proofs.Common.{◌≡◌, inl, inr, if◌then◌else◌, ℕ, Bool, true, false, List, [], ◌∷◌, ◌++◌, length, map, Option, Some, None, Ok, Err, refl, ap, sym, subst, ◌∙◌, MatchBool, reverse_onto, Calls, Seen, crossing_of, is_memory, step_crossings, up_at, Host, CarrierFault, Crossing, Inbound, NetEvent, HostMessage, accepted, NcpState, refusal, next_out, NcpFault, Request, line_bits, AreOfOneEvent, AreStops, WorldState, WorldFault, Carrier, Program, Net, Quiet, Offer, Ask, Server, User, Typed, Seat, seat_of, served_at, services_of, with_carrier, with_server, with_user, world_moved, AskGives, AtProgram, AtSeat, Does, DoesOrHalts, EventGives, Halts, NetEnds, OfferEnds, OfferGives, QuietEnds, Refuses, StepGives, TakeEnds, TakeGives, TypeGives}
+use Rattle.net_sim.proofs.Common.{◌≡◌, inl, inr, if◌then◌else◌, ℕ, Bool, true, false, List, [], ◌∷◌, ◌++◌, length, map, Option, Some, None, Ok, Err, refl, ap, sym, subst, ◌∙◌, MatchBool, reverse_onto, Calls, Seen, crossing_of, is_memory, step_crossings, up_at, Host, CarrierFault, Crossing, Inbound, NetEvent, HostMessage, accepted, NcpState, refusal, next_out, NcpFault, Request, line_bits, AreOfOneEvent, AreStops, WorldState, WorldFault, Carrier, Program, Net, Quiet, Offer, Ask, Server, User, Typed, Seat, seat_of, served_at, services_of, with_carrier, with_server, with_user, world_moved, AskGives, AtProgram, AtSeat, Does, DoesOrHalts, EventGives, Halts, NetEnds, OfferEnds, OfferGives, QuietEnds, Refuses, TurnGives, TakeEnds, TakeGives, TypeGives}
 use Rattle.std.proofs.Common.{Result}
 use Rattle.std.specs.Prelude.{reverse}
 use Rattle.interface.specs.declared.carrier.CarrierFault.TheVariants as fault
@@ -9,8 +9,7 @@ use Rattle.interface.specs.declared.event.NetEvent.TheVariants as event
 use Rattle.sockets.specs.Sending.{offered}
 use Rattle.sockets.specs.declared.fault.NcpFault.TheVariants as problem
 use Rattle.sockets.specs.declared.request.Request.TheVariants as request
-use Rattle.net_sim.specs.World.{Event, Out, Take}
-use Rattle.net_sim.specs.World.{Passes, changed, has_seat, is_of_strangers, is_sent}
+use Rattle.net_sim.specs.World.{Event, Out, Take, Passes, changed, has_seat, is_of_strangers, is_sent}
 use Rattle.net_sim.specs.World as world
 
 abbrev pub Answered : Type 0
@@ -216,6 +215,6 @@ module _ {C : Type 0} (calls : Calls C) (Crossed : C → C → List Crossing →
   if_stopped P old r new false is k h = k is h
 
   -- one event, whether or not the world has stopped
-  pub step_way : (e : Event) → (is_sent e ≡ true → (w : WorldState C) → R w (Err world.HasProgram) w)
-      → (old : WorldState C) (r : Answered) (new : WorldState C) → StepGives calls old e r new → R old r new
-  step_way e unsaid_way old r new h = if_stopped (EventGives calls old e r new) old r new old.stopped refl (λ running g. event_way e unsaid_way old r new running g) h
+  pub turn_way : (e : Event) → (is_sent e ≡ true → (w : WorldState C) → R w (Err world.HasProgram) w)
+      → (old : WorldState C) (r : Answered) (new : WorldState C) → TurnGives calls old e r new → R old r new
+  turn_way e unsaid_way old r new h = if_stopped (EventGives calls old e r new) old r new old.stopped refl (λ running g. event_way e unsaid_way old r new running g) h

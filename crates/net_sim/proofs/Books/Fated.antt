@@ -6,7 +6,7 @@ use Rattle.sockets.specs.declared.request.Request.TheVariants as request
 use Rattle.promise.specs.Fates.{AreFated, is_over}
 use Rattle.promise.specs.declared.life.Fate.TheVariants as fate
 use Rattle.net_sim.specs.Mixed.{crossed_only, mixed_kept}
-use Rattle.net_sim.specs.MixedWorlds.{IsLawfulAmong}
+use Rattle.net_sim.specs.Clean.{IsLawfulAmong}
 use Rattle.net_sim.proofs.Hosts.Telling.{kept_nobody}
 use Rattle.net_sim.specs.Book.{closing, fates_asked, fates_crossed, fates_told, granted, over_by_cls}
 

@@ -1,63 +1,94 @@
 -- What a world keeps is enough for its next event.
-use Rattle.net_sim.proofs.Common.{◌≡◌, Bool, true, false, ◌||◌, if◌then◌else◌, List, [], ◌∷◌, map, Some, None, IfSome, refl, ap, sym, subst, All-nil, All-cons, All-head, All-tail, InOrder, Host, IsAddress, is_host, same_host, NcpState, HaveAddresses, AreLive, IsOnce, hosts_of, Moment, program, crossings_of, seat_in, Seat}
-use Rattle.std.proofs.Common.{All}
-use Rattle.interface.proofs.lemmas.{host_before_never, host_before_trans}
-use Rattle.interface.specs.Host.{host_before}
-use Rattle.interface.specs.Mailboxes.{is_up}
-use Rattle.sockets.proofs.lemmas.{same_host-true}
-use Rattle.net_sim.proofs.Hosts.Stays.{program_stays}
+use Rattle.net_sim.proofs.Common.{◌≡◌, Bool, true, false, List, [], ap, sym, subst, ◌∙◌, MatchBool, Calls, Seen, InOrder, Host, IsAddress, is_host, IsNamed, shown, AreLive, EventGives, StepGives, TurnGives, WorldState, WorldFault, Carrier, Refuses, Seat, opening_world, running}
+use Rattle.net_sim.specs.World.{Event}
+use Rattle.std.proofs.Common.{All, Result}
+use Rattle.std.specs.List.{filter}
+use Rattle.interface.specs.Mailboxes.{IsRun}
+use Rattle.interface.specs.declared.carrier.CarrierFault.TheVariants as fault
+use Rattle.net_sim.specs.Inside.Held.{IsHeld, among}
+use Rattle.net_sim.specs.Clean.{IsLawfulAmong}
+use Rattle.net_sim.specs.Steps.{AmongGives, opening_mixed, strange_in, with_programs}
+use Rattle.net_sim.proofs.Books.Seated.{have_addresses, seats_live}
+use Rattle.net_sim.proofs.Books.Among as worlds
+use Rattle.net_sim.proofs.Books.Nobody.{opening_nobody}
+use Rattle.net_sim.proofs.Books.Whole.{some_hosts}
+use Rattle.net_sim.proofs.Hosts.Anyone.{event_among}
 
--- ---- hosts in order are there once each
+-- ---- at first
 
-not_same : (g h : Host) → host_before g h ≡ true → (b : Bool) → same_host g h ≡ b → b ≡ false
-not_same g h before true e =
-    let P : Host → Type 0 = λ x. host_before x h ≡ true in
-    let again : host_before h h ≡ true = subst P (same_host-true g h e) before in
-    let never : host_before h h ≡ false = host_before_never h in
-    absurd (cc)
-not_same g h before false e = refl
+pub opening_among_held : {C : Type 0} (own : Calls C) (c : C) (named : List Host) → (own.seen c).log ≡ [] → InOrder (own.seen c).hosts → All (λ (h : Host). IsAddress h) (own.seen c).hosts
+    → IsHeld own.seen (opening_mixed (shown own) c named)
+opening_among_held own c named none order addresses = record {
+  ordered = order;
+  lawful = worlds.opening_lawful own (filter (λ g. is_host named g) (own.seen c).hosts) c none (have_addresses (own.seen c).hosts addresses)
+      (some_hosts (λ g. is_host named g) (own.seen c).hosts);
+}
 
-without_next : (g h : Host) (hosts : List Host) → InOrder (g ∷ h ∷ hosts) → InOrder (g ∷ hosts)
-without_next g h [] order = tt
-without_next g h (k ∷ hosts) order = (host_before_trans g h k order.0 order.1.0, order.1.1)
+-- with no strangers
+pub opening_held : {C : Type 0} (own : Calls C) (c : C) → (own.seen c).log ≡ [] → InOrder (own.seen c).hosts
+    → All (λ (h : Host). IsAddress h) (own.seen c).hosts → IsHeld own.seen (opening_world (shown own) c)
+opening_held {C} own c none order addresses =
+    subst (λ (w : WorldState C). IsHeld own.seen w) (opening_nobody (shown own) c)
+    (record {
+      ordered = order;
+      lawful = worlds.opening_lawful own [] c none (have_addresses (own.seen c).hosts addresses)
+          (λ h on. absurd (let no : false ≡ true = on in cc));
+    })
 
-not_later : (g : Host) (hosts : List Host) → InOrder (g ∷ hosts) → is_host hosts g ≡ false
-not_later g [] order = refl
-not_later g (h ∷ hosts) order = rw (not_same g h order.0 (same_host g h) refl) (not_later g hosts (without_next g h hosts order))
+-- ---- no program is spent
 
-once_first : (g : Host) (hosts : List Host) → InOrder (g ∷ hosts) → (h : Host) → same_host h g ≡ true → is_host hosts h ≡ false
-once_first g hosts order h same = let P : Host → Type 0 = λ x. is_host hosts x ≡ false in subst P (sym (same_host-true h g same)) (not_later g hosts order)
+pub core_live : {C : Type 0} (seen : C → Seen) (w : WorldState C) → IsHeld seen w → w.stopped ≡ false
+    → (seats : List Seat) → seats ≡ w.seats → AreLive seats
+core_live seen w held on seats is =
+    let seated : List Host = with_programs (strange_in w) (seen w.carrier).hosts in
+    subst AreLive (sym (is ∙ held.lawful.whole.seats on)) (seats_live (seen w.carrier).hosts seated held.lawful.whole.moments)
 
-pub once_in_order : (hosts : List Host) → InOrder hosts → IsOnce hosts
-once_in_order [] order = tt
-once_in_order (g ∷ []) order = (once_first g [] order, tt)
-once_in_order (g ∷ h ∷ hosts) order = (once_first g (h ∷ hosts) order, once_in_order (h ∷ hosts) order.1)
+-- ---- each event leaves a world so
 
--- ---- the seats
+-- what keeps the law keeps the order of the hosts, which are the same
+module _ {C : Type 0} (own : Calls C) (old new : WorldState C) (r : Result (Unit {0}) WorldFault)
+    (held : IsHeld own.seen old) (run : IsRun (own.seen new.carrier).hosts (own.seen new.carrier).log) where
+  abbrev hosts : List Host
+  hosts = (own.seen old.carrier).hosts
 
-pub hosts_seated : (hosts hs : List Host) (moments : List Moment) → hosts_of (map (seat_in hosts moments) hs) ≡ hs
-hosts_seated hosts [] moments = refl
-hosts_seated hosts (h ∷ hs) moments = ap (λ (xs : List Host). h ∷ xs) (hosts_seated hosts hs moments)
+  abbrev Lawful : List Host → Type 0
+  Lawful hs = IsLawfulAmong (strange_in new) own.seen hs new
 
-abbrev RunsLive : Seat → Type 0
-RunsLive s = IfSome s.program (λ p. p.spent ≡ false)
+  held_by : worlds.Keeps own hosts (strange_in new) new → IsHeld own.seen new
+  held_by kept =
+      let same : (own.seen new.carrier).hosts ≡ hosts = kept.whole.network in
+      let mine : IsRun hosts (own.seen new.carrier).log =
+      subst (λ (hs : List Host). IsRun hs (own.seen new.carrier).log) same run in
+      record {
+        ordered = subst InOrder (sym same) held.ordered;
+        lawful = subst Lawful (sym same) (worlds.lawful_by own hosts (strange_in new) new held.lawful.addresses mine kept);
+      }
 
-seat_by : (b : Bool) (s : NcpState) → s.spent ≡ false → IfSome (if b then Some s else None) (λ p. p.spent ≡ false)
-seat_by true s live = live
-seat_by false s live = tt
+  pub step_held : (e : Event) → IsNamed e → StepGives (shown own) old e r new → IsHeld own.seen new
+  step_held e named gives = held_by (worlds.step_keeps own hosts e old r new named (worlds.kept_of own hosts old held.lawful) gives)
 
-pub seats_live : (hosts hs : List Host) (moments : List Moment) → AreLive (map (seat_in hosts moments) hs)
-seats_live hosts [] moments = All-nil RunsLive
-seats_live hosts (h ∷ hs) moments =
-    All-cons RunsLive (seat_in hosts moments h) (map (seat_in hosts moments) hs) (seat_by (is_up hosts h (crossings_of moments)) (program h moments) (program_stays h moments).spent) (seats_live hosts hs moments)
+  pub turn_held : (e : Event) → IsNamed e → TurnGives (shown own) old e r new → IsHeld own.seen new
+  turn_held e named gives = held_by (worlds.turn_keeps own hosts e old r new named (worlds.kept_of own hosts old held.lawful) gives)
 
--- ---- addresses
+-- ---- a world that hasn't stopped
 
-have_first : (g : Host) (hosts : List Host) → IsAddress g → HaveAddresses hosts → (h : Host) (b : Bool) → same_host h g ≡ b → (b || is_host hosts h) ≡ true → IsAddress h
-have_first g hosts first later h true e is = subst IsAddress (sym (same_host-true h g e)) first
-have_first g hosts first later h false e is = later h is
+pub still_running : {C : Type 0} (w : WorldState C) → w.stopped ≡ false → among w.strangers (running w.carrier w.seats w.services w.kept) ≡ w
+still_running {C} w e =
+    let with : Bool → WorldState C = λ b. record { carrier = w.carrier; strangers = w.strangers; seats = w.seats; services = w.services; kept = w.kept; stopped = b } in
+    ap with (sym e)
 
-pub have_addresses : (hosts : List Host) → All (λ (h : Host). IsAddress h) hosts → HaveAddresses hosts
-have_addresses [] all h is = absurd (cc)
-have_addresses (g ∷ hosts) all h is =
-    have_first g hosts (All-head (λ (x : Host). IsAddress x) g hosts all) (have_addresses hosts (All-tail (λ (x : Host). IsAddress x) g hosts all)) h (same_host h g) refl is
+-- what happens, whichever hosts are strangers, happens among these
+pub turn_goes : {C : Type 0} (calls : Calls C) (e : Event) (old : WorldState C) (r : Result (Unit {0}) WorldFault) (new : WorldState C) → old.stopped ≡ false
+    → EventGives calls (running old.carrier old.seats old.services old.kept) e r new → TurnGives calls old e r (among old.strangers new)
+turn_goes {C} calls e old r new on gives =
+    let now : WorldState C = among old.strangers (running old.carrier old.seats old.services old.kept) in
+    let mine : EventGives calls old e r (among old.strangers new) =
+    subst (λ (w : WorldState C). EventGives calls w e r (among old.strangers new)) (still_running old on)
+    (event_among calls old.strangers e (running old.carrier old.seats old.services old.kept) r new gives) in
+    subst (λ (b : Bool). MatchBool b (Refuses (Carrier fault.Stopped) old r (among old.strangers new)) (EventGives calls old e r (among old.strangers new))) (sym on) mine
+
+pub step_goes : {C : Type 0} (calls : Calls C) (e : Event) (old : WorldState C) (r : Result (Unit {0}) WorldFault) (new : WorldState C) → old.stopped ≡ false
+    → AmongGives calls (among old.strangers (running old.carrier old.seats old.services old.kept)) e r new → StepGives calls old e r new
+step_goes {C} calls e old r new on gives =
+    let mine : AmongGives calls old e r new = subst (λ (w : WorldState C). AmongGives calls w e r new) (still_running old on) gives in
+    subst (λ (b : Bool). MatchBool b (Refuses (Carrier fault.Stopped) old r new) (AmongGives calls old e r new)) (sym on) mine

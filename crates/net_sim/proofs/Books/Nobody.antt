@@ -1,13 +1,16 @@
 -- Worlds without strangers: what is kept of them describes a timeline of all hosts, after every event.
-use Rattle.net_sim.proofs.Common.{◌≡◌, ℕ, Bool, true, false, List, [], ◌∷◌, map, refl, ap, sym, subst, ◌∙◌, Calls, Host, shown, Moment, IsTimeline, host_in, AreServed, Each, IsNamed, seat_in, WorldState, WorldFault, opening_seats, opening_services, opening_world, StepGives, RunGives, CalmGives, Seen}
-use Rattle.net_sim.specs.Whole.{IsWhole}
+use Rattle.net_sim.proofs.Common.{◌≡◌, ℕ, Bool, true, false, List, [], ◌∷◌, map, refl, ap, sym, subst, ◌∙◌, Calls, Host, shown, Moment, IsTimeline, host_in, AreServed, Each, IsNamed, seat_in, WorldState, WorldFault, opening_seats, opening_services, opening_world, StepGives, TurnGives, RunGives, CalmGives, Seen}
+use Rattle.net_sim.specs.Whole.{IsWhole, IsWholeAmong}
 use Rattle.std.proofs.Common.{Result}
 use Rattle.net_sim.specs.Mixed.{AreMixed}
-use Rattle.net_sim.specs.MixedWorlds.{IsLawfulAmong, IsWholeAmong, opening_among, with_programs}
-use Rattle.net_sim.specs.Clean.{IsLawful}
+use Rattle.net_sim.specs.Clean.{IsLawfulAmong, IsLawful}
+use Rattle.net_sim.specs.Steps.{opening_among, with_programs}
 use Rattle.net_sim.specs.World.{Event}
 use Rattle.net_sim.proofs.Hosts.Telling.{kept_nobody}
-use Rattle.net_sim.proofs.Books.Whole.{calm_among, opening_among_whole, run_among, step_among}
+use Rattle.net_sim.proofs.Books.Always.{run_keeps}
+use Rattle.net_sim.proofs.Books.Same.{step_same}
+use Rattle.net_sim.proofs.Books.Strangers.{alone}
+use Rattle.net_sim.proofs.Books.Whole.{calm_among, opening_among_whole, turn_among}
 
 pub any_mixed : (strange : Host → Bool) (hosts : List Host) (moments : List Moment) → IsTimeline hosts moments → AreMixed strange hosts moments
 any_mixed strange hosts [] t = tt
@@ -62,11 +65,21 @@ no_one : (h : Host) → nobody h ≡ false
 no_one h = refl
 
 module _ {C : Type 0} (own : Calls C) (hosts : List Host) where
-  pub step_whole : (e : Event) (old : WorldState C) (r : Result (Unit {0}) WorldFault) (new : WorldState C) → IsNamed e → IsWhole own.seen hosts old → StepGives (shown own) old e r new → IsWhole own.seen hosts new
-  step_whole e old r new named w h = among_whole nobody no_one own.seen hosts new (step_among own nobody hosts e old r new named (whole_among nobody no_one own.seen hosts old w) h)
+  pub turn_whole : (e : Event) (old : WorldState C) (r : Result (Unit {0}) WorldFault) (new : WorldState C) → IsNamed e → IsWhole own.seen hosts old → TurnGives (shown own) old e r new → IsWhole own.seen hosts new
+  turn_whole e old r new named w h = among_whole nobody no_one own.seen hosts new (turn_among own nobody hosts e old r new named (whole_among nobody no_one own.seen hosts old w) h)
 
-  pub run_whole : (events : List Event) (old : WorldState C) (r : Result (Unit {0}) WorldFault) (new : WorldState C) → Each IsNamed events → IsWhole own.seen hosts old → RunGives (shown own) old events r new → IsWhole own.seen hosts new
-  run_whole events old r new named w h = among_whole nobody no_one own.seen hosts new (run_among own nobody hosts events old r new named (whole_among nobody no_one own.seen hosts old w) h)
+  -- it has no strangers, and is whole
+  abbrev IsAlone : WorldState C → Type 0
+  IsAlone w = (w.strangers ≡ []) × IsWhole own.seen hosts w
+
+  pub step_whole : (e : Event) (old : WorldState C) (r : Result (Unit {0}) WorldFault) (new : WorldState C) → IsNamed e → old.strangers ≡ [] → IsWhole own.seen hosts old → StepGives (shown own) old e r new → IsWhole own.seen hosts new
+  step_whole e old r new named none w h = turn_whole e old r new named w (alone (shown own) old r new none e h)
+
+  step_alone : (e : Event) (old : WorldState C) (r : Result (Unit {0}) WorldFault) (new : WorldState C) → IsNamed e → IsAlone old → StepGives (shown own) old e r new → IsAlone new
+  step_alone e old r new named w h = (step_same (shown own) e old r new h ∙ w.0, step_whole e old r new named w.0 w.1 h)
+
+  pub run_whole : (events : List Event) (old : WorldState C) (r : Result (Unit {0}) WorldFault) (new : WorldState C) → Each IsNamed events → old.strangers ≡ [] → IsWhole own.seen hosts old → RunGives (shown own) old events r new → IsWhole own.seen hosts new
+  run_whole events old r new named none w h = (run_keeps (shown own) IsAlone IsNamed step_alone events old r new named (none, w) h).1
 
   pub calm_whole : (times : ℕ) (old : WorldState C) (r : Result (Unit {0}) WorldFault) (new : WorldState C) → IsWhole own.seen hosts old → CalmGives (shown own) times old r new → IsWhole own.seen hosts new
   calm_whole times old r new w h = among_whole nobody no_one own.seen hosts new (calm_among own nobody hosts times old r new (whole_among nobody no_one own.seen hosts old w) h)

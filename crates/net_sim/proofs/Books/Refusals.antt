@@ -1,9 +1,10 @@
 -- A refusal, and running out of memory, leave what is kept as it was. No world without strangers answers as only one with strangers does, but
 -- to what only a stranger sends.
-use Rattle.net_sim.proofs.Common.{◌≡◌, ℕ, zero, suc, Bool, true, false, List, [], ◌∷◌, Ok, Err, ap, refl, sym, ◌∙◌, MatchBool, Calls, WorldState, WorldFault, Carrier, Program, Refuses, StepGives, stops, wants_memory, Runs, RunGives, TurnsOf, up_in, Calms, CalmGives}
+use Rattle.net_sim.proofs.Common.{◌≡◌, ℕ, zero, suc, Bool, true, false, List, [], ◌∷◌, Ok, Err, ap, refl, sym, ◌∙◌, MatchBool, Calls, WorldState, WorldFault, Carrier, Program, Refuses, StepGives, TurnGives, stops, wants_memory, Runs, RunGives, TurnsOf, up_in, Calms, CalmGives}
 use Rattle.interface.specs.declared.carrier.CarrierFault.TheVariants as fault
 use Rattle.net_sim.specs.World.{Event, HasProgram, NoProgram, is_of_strangers, is_sent}
-use Rattle.net_sim.proofs.Books.EachEvent.{Answered, Ways, step_way, unshown}
+use Rattle.net_sim.proofs.Books.EachEvent.{Answered, Ways, turn_way, unshown}
+use Rattle.net_sim.proofs.Books.Strangers.{alone, each_way}
 
 module _ {C : Type 0} (calls : Calls C) (f : WorldFault) where
   abbrev Stands : WorldState C → Answered → WorldState C → Type 0
@@ -27,8 +28,13 @@ module _ {C : Type 0} (calls : Calls C) (f : WorldFault) where
     user = λ h peer listen own s old running has is. absurd (not_done (Ok tt) refl is);
   }
 
+  pub turn_stands : (old : WorldState C) (r : Answered) (new : WorldState C) → r ≡ Err f → (e : Event) → TurnGives calls old e r new → new.kept ≡ old.kept
+  turn_stands old r new is e h = turn_way calls (λ c d cs. Unit {0}) (unshown calls) Stands stands_ways e (λ sent w is. refl) old r new h is
+
   pub step_stands : (old : WorldState C) (r : Answered) (new : WorldState C) → r ≡ Err f → (e : Event) → StepGives calls old e r new → new.kept ≡ old.kept
-  step_stands old r new is e h = step_way calls (λ c d cs. Unit {0}) (unshown calls) Stands stands_ways e (λ sent w is. refl) old r new h is
+  step_stands old r new is e h =
+      each_way calls (λ c d cs. Unit {0}) (unshown calls) Stands stands_ways (λ c x w on crossed is. absurd (not_done (Ok tt) refl is)) (λ g w of is. refl)
+      e old r new h is
 
 -- ---- what only a world with strangers answers
 
@@ -68,10 +74,13 @@ module _ {C : Type 0} (calls : Calls C) where
     user = λ h peer listen own s old running has. refl;
   }
 
-  pub step_own : (e : Event) (old : WorldState C) (r : Answered) (new : WorldState C) → is_sent e ≡ false → StepGives calls old e r new → Own r
-  step_own e old r new other h =
-      step_way calls (λ c d cs. Unit {0}) (unshown calls) (λ old r new. Own r) own_ways e
+  pub turn_own : (e : Event) (old : WorldState C) (r : Answered) (new : WorldState C) → is_sent e ≡ false → TurnGives calls old e r new → Own r
+  turn_own e old r new other h =
+      turn_way calls (λ c d cs. Unit {0}) (unshown calls) (λ old r new. Own r) own_ways e
       (λ sent w. absurd (let no : false ≡ true = sym other ∙ sent in cc)) old r new h
+
+  pub step_own : (e : Event) (old : WorldState C) (r : Answered) (new : WorldState C) → old.strangers ≡ [] → is_sent e ≡ false → StepGives calls old e r new → Own r
+  step_own e old r new none other h = turn_own e old r new other (alone calls old r new none e h)
 
   -- after an answer that may end all of them
   goes_on : (Rest : Type 0) (answer r : Answered) (mid new : WorldState C) → (Rest → Own r)

@@ -1,16 +1,16 @@
 -- After every event of a world, what services have reported is so, and all that runs is as its host was notified.
-use Rattle.net_sim.proofs.Common.{◌≡◌, ℕ, Bool, true, false, if◌then◌else◌, find, List, [], ◌∷◌, ◌++◌, length, Option, Some, Ok, refl, sym, subst, ◌∙◌, All-cons, All-head, All-nil, All-tail, Calls, is_host, crossing_of, step_crossings, is_memory, Host, same_host, Crossing, HostMessage, Notice, accepted, NcpState, served, served_notices, offered, Request, ServiceDeskState, ServicesState, no_services, opening_desk, server_begun, user_begun, Reported, Kept, all_asked, all_crossed, all_told, asked, book_told, crossed, IsBacked, IsRunning, told_to, Each, WorldState, ServiceSeat, all_emptied, noticed, opening_services, opening_world, served_at, serviced, services_in, services_of, tended, with_services, world_heard, world_moved, CalmGives, Halts, RunGives, StepGives}
+use Rattle.net_sim.proofs.Common.{◌≡◌, ℕ, Bool, true, false, if◌then◌else◌, find, List, [], ◌∷◌, ◌++◌, length, Option, Some, Ok, refl, sym, subst, ◌∙◌, All-cons, All-head, All-nil, All-tail, Calls, is_host, crossing_of, step_crossings, is_memory, Host, same_host, Crossing, Notice, accepted, NcpState, served, served_notices, offered, Request, ServiceDeskState, ServicesState, no_services, opening_desk, server_begun, user_begun, Reported, Kept, all_asked, all_crossed, all_told, asked, book_told, crossed, IsBacked, IsRunning, told_to, WorldState, ServiceSeat, all_emptied, noticed, opening_services, opening_world, served_at, serviced, services_in, services_of, tended, with_services, world_heard, world_moved, CalmGives, Halts, RunGives, StepGives, TurnGives}
 use Rattle.std.proofs.Common.{All}
 use Rattle.std.proofs.lemmas.List.Elements.{All-append}
 use Rattle.interface.specs.declared.crossing.Crossing.TheVariants as crossing
 use Rattle.interface.proofs.lemmas.{same_host-true}
 use Rattle.promise.specs.declared.book.Told.{Told}
 use Rattle.net_sim.specs.Reports.{AreReported, AreRunning}
-use Rattle.net_sim.specs.MixedWorlds.{FetchGives, OutGives, opening_among, with_programs}
+use Rattle.net_sim.specs.Steps.{opening_among, with_programs}
 use Rattle.net_sim.specs.World.{Event, changed, turn_of}
-use Rattle.net_sim.proofs.Books.Always.{calm_keeps, run_keeps}
-use Rattle.net_sim.proofs.Books.EachEvent.{Answered, Ways, step_way, unshown}
-use Rattle.net_sim.proofs.Books.Strangers.{fetch_way, out_way}
+use Rattle.net_sim.proofs.Books.Always.{all_named, calm_keeps, run_keeps}
+use Rattle.net_sim.proofs.Books.EachEvent.{Answered, Ways, turn_way, unshown}
+use Rattle.net_sim.proofs.Books.Strangers.{each_way}
 use Rattle.net_sim.proofs.Books.Machines.{AreLeft, backed_more, server_left, told_away, told_left, user_left}
 use Rattle.net_sim.proofs.Hosts.Seats.{same_host-sym}
 
@@ -175,30 +175,23 @@ module _ {C : Type 0} (calls : Calls C) where
         (user_left h old.kept.book.notices peer listen own (services_of h old.services) s (runs_at h old running b)) b;
   }
 
-  pub step_reported : (e : Event) (old : WorldState C) (r : Answered) (new : WorldState C) → AreReported old → StepGives calls old e r new → AreReported new
-  step_reported e old r new b h = step_way calls (λ c d cs. Unit {0}) (unshown calls) Reports reports_ways e (λ is w k. k) old r new h b
+  pub turn_reported : (e : Event) (old : WorldState C) (r : Answered) (new : WorldState C) → AreReported old → TurnGives calls old e r new → AreReported new
+  turn_reported e old r new b h = turn_way calls (λ c d cs. Unit {0}) (unshown calls) Reports reports_ways e (λ is w k. k) old r new h b
 
   -- what a stranger sends or takes
   strange_reported : (c : C) (x : Crossing) (old : WorldState C) → old.stopped ≡ false → Unit {0} → Reports old (Ok tt) (changed c (x ∷ []) old)
   strange_reported c x old running crossed b = changed_reported c (x ∷ []) old running b
 
-  pub out_reported : (m : HostMessage) (old : WorldState C) (r : Answered) (new : WorldState C) → old.stopped ≡ false → AreReported old → OutGives calls m old r new → AreReported new
-  out_reported m old r new running b h = out_way calls (λ c d cs. Unit {0}) (unshown calls) Reports reports_ways strange_reported m old r new running h b
-
-  pub fetch_reported : (h : Host) (old : WorldState C) (r : Answered) (new : WorldState C) → old.stopped ≡ false → AreReported old → FetchGives calls h old r new → AreReported new
-  fetch_reported h old r new running b gives = fetch_way calls (λ c d cs. Unit {0}) (unshown calls) Reports reports_ways strange_reported h old r new running gives b
+  pub step_reported : (e : Event) (old : WorldState C) (r : Answered) (new : WorldState C) → AreReported old → StepGives calls old e r new → AreReported new
+  step_reported e old r new b h = each_way calls (λ c d cs. Unit {0}) (unshown calls) Reports reports_ways strange_reported (λ f w of k. k) e old r new h b
 
   -- ---- several events, and none
 
-  all_named : (events : List Event) → Each (λ e. Unit {0}) events
-  all_named [] = tt
-  all_named (e ∷ events) = (tt, all_named events)
-
   pub run_reported : (events : List Event) (old : WorldState C) (r : Answered) (new : WorldState C) → AreReported old → RunGives calls old events r new → AreReported new
-  run_reported events old r new b h = run_keeps calls AreReported (λ e. Unit {0}) tt (λ x. tt) (λ x. tt) (λ e v q w n. step_reported e v q w) events old r new (all_named events) b h
+  run_reported events old r new b h = run_keeps calls AreReported (λ e. Unit {0}) (λ e v q w n. step_reported e v q w) events old r new (all_named events) b h
 
   pub calm_reported : (times : ℕ) (old : WorldState C) (r : Answered) (new : WorldState C) → AreReported old → CalmGives calls times old r new → AreReported new
-  calm_reported times old r new b h = calm_keeps calls AreReported (λ e. Unit {0}) tt (λ x. tt) (λ x. tt) (λ e v q w n. step_reported e v q w) times old r new b h
+  calm_reported times old r new b h = calm_keeps calls AreReported (λ e. Unit {0}) tt (λ x. tt) (λ x. tt) (λ e v q w n. turn_reported e v q w) times old r new b h
 
   pub opening_reported : (c : C) → AreReported (opening_world calls c)
   opening_reported c = record { reports = All-nil (IsBacked []); services = λ running. opening_run (calls.seen c).hosts }

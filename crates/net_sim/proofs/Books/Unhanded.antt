@@ -1,5 +1,5 @@
 -- Nothing is handed over in a receiving life: a request to send is refused on a receiving socket.
-use Rattle.net_sim.proofs.Common.{◌≡◌, ℕ, ◌==◌, ◌&&◌, ◌++◌, ◌%◌, Bool, true, false, not, List, [], ◌∷◌, None, refl, ap, sym, subst, ◌∙◌, arith, if◌then◌else◌, eqb-true, Host, same_host, Seen, Crossing, and_true, is_receive_socket, is_send_socket, Notice, NcpState, Request, Life, Kept, all_told, book_told, carried, changed_when, handed_to, life_ended, lives_asked, lives_at, lives_between, lives_crossed, lives_on, lives_told, lives_with, new_life, returned, where_it, Moment, Crossed, Asked, program, Happens, IsLawful, host_in, kept_by, notices_by, WorldState}
+use Rattle.net_sim.proofs.Common.{◌≡◌, ℕ, ◌==◌, ◌&&◌, ◌++◌, ◌%◌, Bool, true, false, not, List, [], ◌∷◌, None, refl, ap, sym, subst, ◌∙◌, arith, if◌then◌else◌, eqb-true, Host, same_host, Seen, Crossing, and_true, is_receive_socket, is_send_socket, Notice, NcpState, Request, Life, Kept, all_told, book_told, carried, changed_when, handed_to, life_ended, lives_asked, lives_at, lives_between, lives_crossed, lives_on, lives_told, lives_with, new_life, returned, where_it, Moment, Crossed, Asked, program, Happens, host_in, kept_by, notices_by, WorldState}
 use Rattle.interface.specs.declared.crossing.Crossing.TheVariants as crossing
 use Rattle.interface.proofs.lemmas.{guard, not_false}
 use Rattle.host_pairs.specs.declared.notice.Notice.TheVariants as notice
@@ -8,8 +8,7 @@ use Rattle.sockets.specs.declared.request.Request.TheVariants as request
 use Rattle.net_sim.specs.Book.{granted, handed_asked, handed_told}
 use Rattle.net_sim.specs.Handed.{AreUnhanded}
 use Rattle.net_sim.specs.Mixed.{AreMixed, crossed_only, mixed_kept}
-use Rattle.net_sim.specs.MixedWorlds.{IsLawfulAmong}
-use Rattle.net_sim.proofs.Books.Nobody.{lawful_among}
+use Rattle.net_sim.specs.Clean.{IsLawfulAmong}
 
 -- ---- changes of lives
 
@@ -114,8 +113,3 @@ pub among_unhanded : {C : Type 0} (strange : Host → Bool) (seen : C → Seen) 
 among_unhanded strange seen hosts w lawful =
     let P : Kept → Type 0 = λ k. AreUnhanded k.book.lives k.handed in
     subst P (sym lawful.whole.kept) (mixed_unhanded strange hosts lawful.whole.moments lawful.whole.mixed)
-
-pub world_unhanded : {C : Type 0} (seen : C → Seen) (hosts : List Host) (w : WorldState C) → IsLawful seen hosts w
-    → AreUnhanded w.kept.book.lives w.kept.handed
-world_unhanded seen hosts w lawful =
-    among_unhanded (λ h. false) seen hosts w (lawful_among (λ h. false) (λ h. refl) seen hosts w lawful)

@@ -1,5 +1,5 @@
 -- After every event of a world some of whose hosts may be strangers its book still describes one list of mixed moments.
-use Rattle.net_sim.proofs.Common.{◌≡◌, ◌⊎◌, inl, inr, ℕ, Bool, true, false, not, filter, ◌||◌, if◌then◌else◌, List, [], ◌∷◌, ◌++◌, map, length, Option, Some, None, Ok, Err, refl, ap, sym, subst, ◌∙◌, MatchBool, fold, Calls, Seen, ShowsOffer, ShowsTake, ShowsRefusal, ShowsCrossings, halted, is_memory, step_crossings, Host, IsAddress, same_host, is_host, same_host-refl, CarrierFault, Crossing, Inbound, NetEvent, HostMessage, accepted, NcpState, refusal, served, served_notices, next_out, offered, NcpFault, Notice, Request, MayAsk, NamePeers, NoneRefused, ServiceDeskState, ServicesState, opening_desk, server_begun, user_begun, line_bits, Called, Kept, contacts_asked, crossed, all_crossed, book_told, all_told, asked, shown, Moment, Crossed, Asked, places, Happens, IsAddressed, contacts_of, crossings_of, host_in, notices_by, without_reports, AreServed, Each, IsNamed, seat_in, WorldState, WorldFault, Carrier, Program, Net, Quiet, Offer, Ask, Server, User, Typed, Seat, seat_of, seated, all_turned, services_of, noticed, world_heard, tended, with_server, with_user, DoesOrHalts, TypeGives, with_program, with_carrier, world_moved, Refuses, Does, Halts, OfferEnds, OfferGives, TakeEnds, TakeGives, NetEnds, QuietEnds, AskGives, AtProgram, AtSeat, EventGives, StepGives, RunGives, CalmGives, opening_seats}
+use Rattle.net_sim.proofs.Common.{◌≡◌, ◌⊎◌, inl, inr, ℕ, Bool, true, false, not, filter, ◌||◌, if◌then◌else◌, List, [], ◌∷◌, ◌++◌, map, length, Option, Some, None, Ok, Err, refl, ap, sym, subst, ◌∙◌, MatchBool, fold, Calls, Seen, ShowsOffer, ShowsTake, ShowsRefusal, ShowsCrossings, halted, is_memory, step_crossings, Host, IsAddress, same_host, is_host, same_host-refl, CarrierFault, Crossing, Inbound, NetEvent, HostMessage, accepted, NcpState, refusal, served, served_notices, next_out, offered, NcpFault, Notice, Request, MayAsk, NamePeers, NoneRefused, ServiceDeskState, ServicesState, opening_desk, server_begun, user_begun, line_bits, Called, Kept, contacts_asked, crossed, all_crossed, book_told, all_told, asked, shown, Moment, Crossed, Asked, places, Happens, IsAddressed, contacts_of, crossings_of, host_in, notices_by, without_reports, AreServed, IsNamed, seat_in, WorldState, WorldFault, Carrier, Program, Net, Quiet, Offer, Ask, Server, User, Typed, Seat, seat_of, seated, all_turned, services_of, noticed, world_heard, tended, with_server, with_user, DoesOrHalts, TypeGives, with_program, with_carrier, world_moved, Refuses, Does, Halts, OfferEnds, OfferGives, TakeEnds, TakeGives, NetEnds, QuietEnds, AskGives, AtProgram, AtSeat, EventGives, TurnGives, CalmGives, opening_seats}
 use Rattle.std.proofs.Common.{All, Result}
 use Rattle.interface.specs.Calls.{ShowsStep, ShowsRound}
 use Rattle.interface.specs.Mailboxes as mail
@@ -14,10 +14,11 @@ use Rattle.host_services.specs.Named.{HasAsked}
 use Rattle.net_sim.specs.Story.{program}
 use Rattle.net_sim.specs.Timeline.{IsAsked}
 use Rattle.net_sim.specs.Mixed.{AreMixed, mixed_kept}
-use Rattle.net_sim.specs.MixedWorlds.{FetchEnds, FetchGives, IsWholeAmong, OutEnds, OutGives, opening_among, with_programs}
+use Rattle.net_sim.specs.Steps.{FetchEnds, FetchGives, OutEnds, OutGives, opening_among, with_programs}
+use Rattle.net_sim.specs.Whole.{IsWholeAmong}
 use Rattle.net_sim.specs.World.{Event, Out, Take, turn_of, changed, unsaid, Passes}
 use Rattle.interface.proofs.lemmas.{same_host-true}
-use Rattle.net_sim.proofs.Books.Always.{run_keeps, calm_keeps}
+use Rattle.net_sim.proofs.Books.Always.{calm_keeps}
 use Rattle.net_sim.proofs.Hosts.Asks.{after_each, asks_contacts, asks_crossings, asks_each, asks_mixed, asks_of, emptied_served, named_of, opening_served, same_each, still_served}
 use Rattle.net_sim.proofs.Books.Booked.{asked_crossings, told_crossings, crossed_crossings}
 use Rattle.net_sim.proofs.Resets.Bridge.{places_same}
@@ -276,35 +277,32 @@ module _ {C : Type 0} (own : Calls C) (strange : Host → Bool) (hosts : List Ho
       let there : seat ≡ seat_in hosts w.moments h = found_seat hosts some w.moments h seat found in
       at_program Gives seat.program h old r new w (found_plain strange hosts hosts w.moments h seat found) (ap (λ (x : Seat). x.program) (sym there)) k g
 
-  event_whole : (e : Event) (old : WorldState C) (r : Result (Unit {0}) WorldFault) (new : WorldState C) → IsNamed e → (w : Whole old) → old.stopped ≡ false → EventGives calls old e r new → Whole new
-  event_whole (Net e) old r new named w running t = net_ends e t.0 t.1 old r new w running t.2.1 t.3
-  event_whole Quiet old r new named w running t = quiet_ends t.0 t.1 old r new w running t.2.1 t.3
-  event_whole (Offer h) old r new named w running t = at_seat (λ s. OfferGives calls h s (next_out s) old r new) (seat_of h old.seats) h old r new w running refl (λ s u g. offer_whole h s (next_out s) old r new w running u refl g) t
-  event_whole (Take h) old r new named w running t = at_seat (λ s. TakeGives calls h s old r new) (seat_of h old.seats) h old r new w running refl (λ s u g. take_ends h s g.0 g.1 old r new w running u g.2.1 g.3) t
-  event_whole (Ask h q) old r new named w running t = at_seat (λ s. AskGives h q s (refusal s q) old r new) (seat_of h old.seats) h old r new w running refl (λ s u g. ask_whole h q s (refusal s q) old r new named refl w running u g) t
-  event_whole (Server h listen base) old r new named w running t =
+  pub event_among : (e : Event) (old : WorldState C) (r : Result (Unit {0}) WorldFault) (new : WorldState C) → IsNamed e → (w : Whole old) → old.stopped ≡ false → EventGives calls old e r new → Whole new
+  event_among (Net e) old r new named w running t = net_ends e t.0 t.1 old r new w running t.2.1 t.3
+  event_among Quiet old r new named w running t = quiet_ends t.0 t.1 old r new w running t.2.1 t.3
+  event_among (Offer h) old r new named w running t = at_seat (λ s. OfferGives calls h s (next_out s) old r new) (seat_of h old.seats) h old r new w running refl (λ s u g. offer_whole h s (next_out s) old r new w running u refl g) t
+  event_among (Take h) old r new named w running t = at_seat (λ s. TakeGives calls h s old r new) (seat_of h old.seats) h old r new w running refl (λ s u g. take_ends h s g.0 g.1 old r new w running u g.2.1 g.3) t
+  event_among (Ask h q) old r new named w running t = at_seat (λ s. AskGives h q s (refusal s q) old r new) (seat_of h old.seats) h old r new w running refl (λ s u g. ask_whole h q s (refusal s q) old r new named refl w running u g) t
+  event_among (Server h listen base) old r new named w running t =
       at_seat (λ s. DoesOrHalts (with_server h listen base s old) old r new) (seat_of h old.seats) h old r new w running refl (λ s u g. server_whole h listen base s old r new w running u g) t
-  event_whole (User h peer listen mine) old r new named w running t =
+  event_among (User h peer listen mine) old r new named w running t =
       at_seat (λ s. DoesOrHalts (with_user h peer listen mine s old) old r new) (seat_of h old.seats) h old r new w running refl (λ s u g. user_whole h peer listen mine s old r new named w running u g) t
-  event_whole (Typed h line) old r new named w running t =
+  event_among (Typed h line) old r new named w running t =
       at_seat (λ s. TypeGives h line s (services_of h old.services).typing old r new) (seat_of h old.seats) h old r new w running refl (λ s u g. type_whole h line s (services_of h old.services).typing old r new w running u g) t
-  event_whole (Out m) old r new named w running t = refused_whole (unsaid m old.seats) old r new w t
+  event_among (Out m) old r new named w running t = refused_whole (unsaid m old.seats) old r new w t
 
   if_stopped : (P : Type 0) (old : WorldState C) (r : Result (Unit {0}) WorldFault) (new : WorldState C) → Whole old → (old.stopped ≡ false → P → Whole new) → (b : Bool) → old.stopped ≡ b
       → MatchBool b (Refuses (Carrier fault.Stopped) old r new) P → Whole new
   if_stopped P old r new w k true e h = refused_whole (Carrier fault.Stopped) old r new w h
   if_stopped P old r new w k false e h = k e h
 
-  pub step_among : (e : Event) (old : WorldState C) (r : Result (Unit {0}) WorldFault) (new : WorldState C) → IsNamed e → Whole old → StepGives calls old e r new → Whole new
-  step_among e old r new named w h = if_stopped (EventGives calls old e r new) old r new w (λ running g. event_whole e old r new named w running g) old.stopped refl h
+  pub turn_among : (e : Event) (old : WorldState C) (r : Result (Unit {0}) WorldFault) (new : WorldState C) → IsNamed e → Whole old → TurnGives calls old e r new → Whole new
+  turn_among e old r new named w h = if_stopped (EventGives calls old e r new) old r new w (λ running g. event_among e old r new named w running g) old.stopped refl h
 
-  -- ---- several events, and none
-
-  pub run_among : (events : List Event) (old : WorldState C) (r : Result (Unit {0}) WorldFault) (new : WorldState C) → Each IsNamed events → Whole old → RunGives calls old events r new → Whole new
-  run_among events old r new named w h = run_keeps calls Whole IsNamed tt (λ x. tt) (λ x. tt) step_among events old r new named w h
+  -- ---- a calm
 
   pub calm_among : (times : ℕ) (old : WorldState C) (r : Result (Unit {0}) WorldFault) (new : WorldState C) → Whole old → CalmGives calls times old r new → Whole new
-  calm_among times old r new w h = calm_keeps calls Whole IsNamed tt (λ x. tt) (λ x. tt) step_among times old r new w h
+  calm_among times old r new w h = calm_keeps calls Whole IsNamed tt (λ x. tt) (λ x. tt) turn_among times old r new w h
 
   -- ---- strangers
 

@@ -5,8 +5,8 @@ use Rattle.interface.specs.declared.crossing.Crossing.TheVariants as crossing
 use Rattle.sockets.specs.Sending.{offered}
 use Rattle.sockets.specs.declared.fault.NcpFault.TheVariants as problem
 use Rattle.sockets.specs.declared.request.Request.TheVariants as request
-use Rattle.net_sim.specs.Inside.Mixed.{among}
-use Rattle.net_sim.specs.MixedWorlds.{FetchEnds, FetchGives, OutEnds, OutGives}
+use Rattle.net_sim.specs.Inside.Held.{among}
+use Rattle.net_sim.specs.Steps.{FetchEnds, FetchGives, OutEnds, OutGives}
 use Rattle.net_sim.specs.World.{Event, Out, Passes, Take, changed, unsaid}
 
 abbrev Answer : Type 0

@@ -1,5 +1,5 @@
 -- A calm, part by part: a host's takings and offers, its turn, a round, and the rounds.
-use Rattle.net_sim.proofs.Common.{inl, inr, ◌≡◌, ℕ, ◌+◌, ◌-◌, ◌<◌, ◌≤◌, Bool, true, false, ◌||◌, zero, suc, nat_lt, cond, List, [], ◌∷◌, length, map, filter, drop, find, if◌then◌else◌, add-one, Option, Some, None, Ok, Err, refl, ap, sym, subst, ◌∙◌, arith, length-map, MatchBool, Host, same_host, Calls, is_memory, is_halt, CarrierFault, Inbound, HostMessage, accepted, NcpState, next_out, offered, IsOnce, hosts_of, WorldState, WorldFault, Carrier, Program, Quiet, Offer, Seat, seat_of, seated, services_of, noticed, Refuses, Does, Halts, OfferEnds, OfferGives, TakeEnds, TakeGives, QuietEnds, AtProgram, AtSeat, EventGives, StepGives, wants_memory, stops, Repeats, TurnsOf, up_in, Calms, CalmGives}
+use Rattle.net_sim.proofs.Common.{inl, inr, ◌≡◌, ℕ, ◌+◌, ◌-◌, ◌<◌, ◌≤◌, Bool, true, false, ◌||◌, zero, suc, nat_lt, cond, List, [], ◌∷◌, length, map, filter, drop, find, if◌then◌else◌, add-one, Option, Some, None, Ok, Err, refl, ap, sym, subst, ◌∙◌, arith, length-map, MatchBool, Host, same_host, Calls, is_memory, is_halt, CarrierFault, Inbound, HostMessage, accepted, NcpState, next_out, offered, IsOnce, hosts_of, WorldState, WorldFault, Carrier, Program, Quiet, Offer, Seat, seat_of, seated, services_of, noticed, Refuses, Does, Halts, OfferEnds, OfferGives, TakeEnds, TakeGives, QuietEnds, AtProgram, AtSeat, EventGives, TurnGives, wants_memory, stops, Repeats, TurnsOf, up_in, Calms, CalmGives}
 use Rattle.std.proofs.Common.{is_some, slice_get, lt-ltb, le-ltb, Result}
 use Rattle.std.proofs.lemmas.List.{drop_all}
 use Rattle.interface.specs.declared.carrier.CarrierFault.TheVariants as fault
@@ -154,7 +154,7 @@ module _ {C : Type 0} (calls : Calls C) where
   running_by P Q old r new on k true e h = absurd (apart (stops r) (ap stops h.0) on)
   running_by P Q old r new on k false e h = k e h
 
-  step_same : (e : Event) (old : WorldState C) (r : Answer) (new : WorldState C) → Calmly e → stops r ≡ false → IsOnce (hosts_of old.seats) → StepGives calls old e r new → standings new.seats ≡ standings old.seats
+  step_same : (e : Event) (old : WorldState C) (r : Answer) (new : WorldState C) → Calmly e → stops r ≡ false → IsOnce (hosts_of old.seats) → TurnGives calls old e r new → standings new.seats ≡ standings old.seats
   step_same e old r new way on once h =
       running_by (EventGives calls old e r new) (standings new.seats ≡ standings old.seats) old r new on (λ running g. (event_same e old r new way running on once g).0) old.stopped refl h
 
@@ -163,7 +163,7 @@ module _ {C : Type 0} (calls : Calls C) where
   quiet_runs (Ok done) c old r new running on ends = ap (λ (w : WorldState C). w.stopped) ends.1 ∙ running
   quiet_runs (Err f) c old r new running on ends = (passes_same f c old r new running on ends).1 ∙ running
 
-  pub rest_runs : (old : WorldState C) (r : Answer) (new : WorldState C) → stops r ≡ false → StepGives calls old Quiet r new → new.stopped ≡ false
+  pub rest_runs : (old : WorldState C) (r : Answer) (new : WorldState C) → stops r ≡ false → TurnGives calls old Quiet r new → new.stopped ≡ false
   rest_runs old r new on h = running_by (EventGives calls old Quiet r new) (new.stopped ≡ false) old r new on (λ running t. quiet_runs t.0 t.1 old r new running on t.3) old.stopped refl h
 
   -- ---- an event again and again
@@ -197,13 +197,13 @@ module _ {C : Type 0} (calls : Calls C) where
       → (r : Answer) (new : WorldState C) → Repeats calls e (suc (total - (count + 1))) now r new → Repeats calls e total begin r new
   one_left e total count begin now lt so r new h = let fewer : suc (total - (count + 1)) ≡ total - count = omega (arith, lt) in so r new (subst (λ (n : ℕ). Repeats calls e n now r new) fewer h)
 
-  one_repeated : (e : Event) (total count : ℕ) (begin old mid : WorldState C) (answer : Answer) → count < total → Repeated e total count begin old → StepGives calls old e answer mid → stops answer ≡ false
+  one_repeated : (e : Event) (total count : ℕ) (begin old mid : WorldState C) (answer : Answer) → count < total → Repeated e total count begin old → TurnGives calls old e answer mid → stops answer ≡ false
       → length old.kept.book.crossings < length mid.kept.book.crossings → Repeated e total (count + 1) begin mid
   one_repeated e total count begin old mid answer lt so step on grew r new h =
       let more : nat_lt (length old.kept.book.crossings) (length mid.kept.book.crossings) ≡ true = lt-ltb (length old.kept.book.crossings) (length mid.kept.book.crossings) grew in
       one_left e total count begin old lt so r new (answer, mid, step, rw (on, more) h)
 
-  pub none_repeated : (e : Event) (total count : ℕ) (begin old mid : WorldState C) (answer : Answer) → count < total → Repeated e total count begin old → StepGives calls old e answer mid → stops answer ≡ false
+  pub none_repeated : (e : Event) (total count : ℕ) (begin old mid : WorldState C) (answer : Answer) → count < total → Repeated e total count begin old → TurnGives calls old e answer mid → stops answer ≡ false
       → length mid.kept.book.crossings ≤ length old.kept.book.crossings → Repeats calls e total begin (Ok tt) mid
   none_repeated e total count begin old mid answer lt so step on same =
       let no : nat_lt (length old.kept.book.crossings) (length mid.kept.book.crossings) ≡ false = le-ltb (length old.kept.book.crossings) (length mid.kept.book.crossings) same in
@@ -211,7 +211,7 @@ module _ {C : Type 0} (calls : Calls C) where
 
   -- by the counts of crossings before and after
   module _ (e : Event) (total count : ℕ) (begin old mid : WorldState C) (answer : Answer) (lt : count < total)
-      (so : Repeated e total count begin old) (step : StepGives calls old e answer mid) (on : stops answer ≡ false)
+      (so : Repeated e total count begin old) (step : TurnGives calls old e answer mid) (on : stops answer ≡ false)
       (n m : ℕ) (before : n ≡ length old.kept.book.crossings) (after : m ≡ length mid.kept.book.crossings) where
     pub one_counted : n < m → Repeated e total (count + 1) begin mid
     one_counted grew = one_repeated e total count begin old mid answer lt so step on (omega (arith, before, after, grew))
@@ -219,7 +219,7 @@ module _ {C : Type 0} (calls : Calls C) where
     pub none_counted : m ≤ n → Repeats calls e total begin (Ok tt) mid
     none_counted same = none_repeated e total count begin old mid answer lt so step on (omega (arith, before, after, same))
 
-  pub stop_repeated : (e : Event) (total count : ℕ) (begin old mid : WorldState C) (answer : Answer) → count < total → Repeated e total count begin old → StepGives calls old e answer mid → stops answer ≡ true
+  pub stop_repeated : (e : Event) (total count : ℕ) (begin old mid : WorldState C) (answer : Answer) → count < total → Repeated e total count begin old → TurnGives calls old e answer mid → stops answer ≡ true
       → Repeats calls e total begin answer mid
   stop_repeated e total count begin old mid answer lt so step is = one_left e total count begin old lt so answer mid (answer, mid, step, rw is (refl, refl))
 
@@ -331,10 +331,10 @@ module _ {C : Type 0} (calls : Calls C) where
   pub as_many : (begin now : WorldState C) (place : ℕ) → Turned begin place now → length now.seats ≡ length begin.seats
   as_many begin now place t = sym (length-map now.seats standing) ∙ ap (λ (xs : List Standing). length xs) t.same ∙ length-map begin.seats standing
 
-  pub stop_round : (old new : WorldState C) (answer : Answer) → StepGives calls old Quiet answer new → stops answer ≡ true → Round calls old answer new
+  pub stop_round : (old new : WorldState C) (answer : Answer) → TurnGives calls old Quiet answer new → stops answer ≡ true → Round calls old answer new
   stop_round old new answer step is = (answer, new, step, rw is (refl, refl))
 
-  pub whole_round : (old quiet new : WorldState C) (answer r : Answer) → StepGives calls old Quiet answer quiet → stops answer ≡ false → TurnsOf calls (up_in quiet.seats) quiet r new → Round calls old r new
+  pub whole_round : (old quiet new : WorldState C) (answer r : Answer) → TurnGives calls old Quiet answer quiet → stops answer ≡ false → TurnsOf calls (up_in quiet.seats) quiet r new → Round calls old r new
   whole_round old quiet new answer r step on turns = (answer, quiet, step, rw on turns)
 
   -- ---- the rounds
@@ -355,13 +355,13 @@ module _ {C : Type 0} (calls : Calls C) where
   round_left total count begin now lt so r new h = let fewer : suc (total - (count + 1)) ≡ total - count = omega (arith, lt) in so r new (subst (λ (n : ℕ). Calms calls n now r new) fewer h)
 
   round_on : (left : ℕ) (now mid : WorldState C) (answer r : Answer) (new : WorldState C) → stops answer ≡ false → Calms calls left mid r new
-      → (first : Answer) (quiet : WorldState C) → StepGives calls now Quiet first quiet → (b : Bool) → stops first ≡ b → MatchBool b ((answer ≡ first) × (mid ≡ quiet)) (TurnsOf calls (up_in quiet.seats) quiet answer mid)
+      → (first : Answer) (quiet : WorldState C) → TurnGives calls now Quiet first quiet → (b : Bool) → stops first ≡ b → MatchBool b ((answer ≡ first) × (mid ≡ quiet)) (TurnsOf calls (up_in quiet.seats) quiet answer mid)
       → Calms calls (suc left) now r new
   round_on left now mid answer r new on rest first quiet step true e t = absurd (apart (stops answer) (ap stops t.0 ∙ e) on)
   round_on left now mid answer r new on rest first quiet step false e t = (first, quiet, step, rw e (answer, mid, t, rw on rest))
 
   round_stops : (left : ℕ) (now mid : WorldState C) (answer : Answer) → stops answer ≡ true
-      → (first : Answer) (quiet : WorldState C) → StepGives calls now Quiet first quiet → (b : Bool) → stops first ≡ b → MatchBool b ((answer ≡ first) × (mid ≡ quiet)) (TurnsOf calls (up_in quiet.seats) quiet answer mid)
+      → (first : Answer) (quiet : WorldState C) → TurnGives calls now Quiet first quiet → (b : Bool) → stops first ≡ b → MatchBool b ((answer ≡ first) × (mid ≡ quiet)) (TurnsOf calls (up_in quiet.seats) quiet answer mid)
       → Calms calls (suc left) now answer mid
   round_stops left now mid answer is first quiet step true e t = (first, quiet, step, rw e t)
   round_stops left now mid answer is first quiet step false e t = (first, quiet, step, rw e (answer, mid, t, rw is (refl, refl)))

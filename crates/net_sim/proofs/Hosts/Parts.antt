@@ -1,5 +1,5 @@
 -- The hosts of a world as each call of them leaves them: each is there once, and its services are in the place of its seat.
-use Rattle.net_sim.proofs.Common.{◌≡◌, ◌<◌, ℕ, Bool, true, false, List, [], ◌∷◌, ◌++◌, drop, length, take, slice_set, Option, Ok, Err, refl, ap, sym, subst, ◌∙◌, arith, length-map, take-append_seam, Host, same_host, Crossing, IsOnce, hosts_of, hosts_served, emptied_in_order, turned_in_order, Sits, NcpState, WorldFault, Seat, ServiceSeat, opening_seats, opening_services, seated, with_program}
+use Rattle.net_sim.proofs.Common.{◌≡◌, ℕ, Bool, true, false, List, [], ◌∷◌, ◌++◌, drop, length, take, slice_set, Option, Ok, Err, refl, ap, sym, subst, ◌∙◌, take-append_seam, Host, same_host, Crossing, IsOnce, hosts_of, hosts_served, emptied_in_order, turned_in_order, Sits, NcpState, WorldFault, Seat, ServiceSeat, opening_seats, opening_services, seated, with_program}
 use Rattle.std.proofs.Common.{MatchResult, Result, reverse, slice_index_or}
 use Rattle.std.proofs.Math.Seq.{map-set_same}
 use Rattle.interface.specs.declared.crossing.Crossing.TheVariants as crossing
@@ -36,13 +36,6 @@ put_at at seats all s d t u y e are mine was back is its had =
     seat_at at (slice_set seats at s) (slice_set all at y) t u (kept_at at seats all s d y e are mine was its had) back is
 
 -- ---- what is at one place
-
-pub served_within : (at : ℕ) (seats : List Seat) (all : List ServiceSeat) → AreHosts seats all → at < length seats → at < length all
-served_within at seats all are lt =
-    let seated_many : length (hosts_of seats) ≡ length seats = length-map seats (λ (x : Seat). x.host) in
-    let served_many : length (hosts_served all) ≡ length all = length-map all (λ (x : ServiceSeat). x.host) in
-    let many : length (hosts_served all) ≡ length (hosts_of seats) = ap (λ (hs : List Host). length hs) are.order in
-    omega (arith, seated_many, served_many, many, lt)
 
 pub up_served : (h : Host) (hosts : HostsState) (r : Result ℕ WorldFault) → AreHosts hosts.seats hosts.services
     → MatchResult r (λ at. (s : NcpState) × Sits h at s hosts.seats) (λ f. IsAway h f hosts.seats)

@@ -1,14 +1,17 @@
--- A world that rests: the carrier does, and no message of a host goes out.
-use Rattle.net_sim.proofs.Common.{◌≡◌, ℕ, ◌+◌, ◌-◌, ◌<◌, zero, suc, Bool, false, ◌==◌, inr, List, [], ◌∷◌, length, find, cond, if◌then◌else◌, Option, Some, None, IfSome, Ok, Err, refl, ap, sym, subst, ◌∙◌, arith, eqb-true, MatchBool, Host, same_host, Calls, Seen, ShowsOffer, ShowsTake, halted, is_memory, is_halt, RefusesOffer, Rests, CarrierFault, Inbound, HostMessage, NcpState, next_out, shown, WorldState, WorldFault, Carrier, Quiet, Offer, Seat, seat_of, Refuses, OfferGives, TakeGives, AtSeat, EventGives, stops, Repeats, TurnsOf, up_in, Calms}
+-- A world that rests: the carrier does beside the strangers, which have no seats, and no message of a host goes out.
+use Rattle.net_sim.proofs.Common.{◌≡◌, ℕ, ◌+◌, ◌-◌, ◌<◌, zero, suc, Bool, false, ◌==◌, inr, List, [], ◌∷◌, length, find, cond, if◌then◌else◌, Option, Some, None, IfSome, Ok, Err, refl, ap, sym, subst, ◌∙◌, arith, eqb-true, MatchBool, Host, is_host, same_host, Calls, Seen, ShowsOffer, ShowsTake, halted, is_memory, is_halt, RefusesOffer, RestsBeside, CarrierFault, Inbound, HostMessage, NcpState, next_out, shown, WorldState, WorldFault, Carrier, Quiet, Offer, Seat, seat_of, Refuses, OfferGives, TakeGives, AtSeat, EventGives, stops, Repeats, TurnsOf, up_in, Calms}
 use Rattle.std.proofs.lemmas.Bool.{or_from}
 use Rattle.std.proofs.Common.{true, slice_get, Result}
 use Rattle.std.proofs.lemmas.Bool.Decides.{nat_tests}
 use Rattle.interface.specs.Rest.{BringsNothing, TakesNothing}
 use Rattle.interface.specs.declared.carrier.CarrierFault.TheVariants as fault
 use Rattle.net_sim.specs.Inside.Calm.{AllOfferNothing, OffersNothing}
+use Rattle.net_sim.specs.Clean.{IsLawfulAmong}
+use Rattle.net_sim.specs.Steps.{strange_in}
 use Rattle.net_sim.specs.Rest.{IsAtRest, Leaves}
 use Rattle.net_sim.specs.World.{Take}
 use Rattle.net_sim.proofs.Hosts.Calming.{Passed, none_repeated}
+use Rattle.net_sim.proofs.Hosts.Seats.{found_plain}
 
 -- ---- what a carrier shows that rests
 
@@ -20,10 +23,11 @@ take_shown s h (Err f) running nothing = record { when_stopped = running ∙ sym
 offer_shown : (s : Seen) (m : HostMessage) (f : CarrierFault) → s.stopped ≡ false → (is_halt f ≡ false) × (is_memory f ≡ false) → ShowsOffer s m (Err f) s
 offer_shown s m f running lasts = record { when_stopped = running ∙ sym lasts.0; shown = sym (ap (λ (b : Bool). if b then halted s else s) lasts.1) }
 
-rest_shown : {C : Type 0} (calls : Calls C) (c : C) → (calls.seen c).stopped ≡ false → Rests calls.rounds calls.takes c → Rests (shown calls).rounds (shown calls).takes c
-rest_shown calls c running rest = record {
+rest_shown : {C : Type 0} (calls : Calls C) (c : C) (hosts : List Host) → (calls.seen c).stopped ≡ false → RestsBeside calls.rounds calls.takes hosts c
+    → RestsBeside (shown calls).rounds (shown calls).takes hosts c
+rest_shown calls c hosts running rest = record {
   round = (rest.round, record { running = running; shown = refl });
-  takings = λ h. (let t = rest.takings h in record { answer = t.answer; nothing = t.nothing; unchanged = (t.unchanged, take_shown (calls.seen c) h t.answer running t.nothing) });
+  takings = λ h other. (let t = rest.takings h other in record { answer = t.answer; nothing = t.nothing; unchanged = (t.unchanged, take_shown (calls.seen c) h t.answer running t.nothing) });
 }
 
 some_shown : {C : Type 0} (calls : Calls C) (c : C) (o : Option HostMessage) → (calls.seen c).stopped ≡ false → IfSome o (λ m. RefusesOffer calls.offers c m) → IfSome o (λ m. RefusesOffer (shown calls).offers c m)
@@ -54,13 +58,21 @@ found_of P h seat (x ∷ seats) all found =
     found_by P h x seat seats (same_host h x.host) found (all 0 (omega arith) x refl)
     (λ f. found_of P h seat seats (λ at lt y got. all (suc at) (omega (arith, lt)) y got) f)
 
+-- no stranger has a seat
+abbrev pub AreSeatless : {C : Type 0} → WorldState C → Type 0
+AreSeatless w = (h : Host) (seat : Seat) → seat_of h w.seats ≡ Some seat → is_host w.strangers h ≡ false
+
+lawful_seatless : {C : Type 0} (seen : C → Seen) (hosts : List Host) (w : WorldState C) → w.stopped ≡ false → IsLawfulAmong (strange_in w) seen hosts w → AreSeatless w
+lawful_seatless seen hosts w running lawful h seat found =
+    found_plain (strange_in w) hosts hosts lawful.whole.moments h seat (ap (seat_of h) (sym (lawful.whole.seats running)) ∙ found)
+
 module _ {C : Type 0} (calls : Calls C) where
   running_by : (P : Type 0) (w : WorldState C) (r : Result (Unit {0}) WorldFault) → P → (b : Bool) → b ≡ false → MatchBool b (Refuses (Carrier fault.Stopped) w r w) P
   running_by P w r h true is = absurd (cc)
   running_by P w r h false is = h
 
-  pub round_leaves : (w : WorldState C) → w.stopped ≡ false → Rests calls.rounds calls.takes w.carrier → Leaves calls w Quiet
-  round_leaves w running rest = record { answer = Ok tt; step = running_by (EventGives calls w Quiet (Ok tt) w) w (Ok tt) (Ok tt, w.carrier, rest.round, (refl, refl)) w.stopped running; continues = refl }
+  pub round_leaves : (w : WorldState C) → w.stopped ≡ false → calls.rounds w.carrier (Ok tt) w.carrier → Leaves calls w Quiet
+  round_leaves w running round = record { answer = Ok tt; step = running_by (EventGives calls w Quiet (Ok tt) w) w (Ok tt) (Ok tt, w.carrier, round, (refl, refl)) w.stopped running; continues = refl }
 
   -- an event at a host that is away is refused
   record Gives (Happens : NcpState → Result (Unit {0}) WorldFault → Type 0) (o : Option Seat) (w : WorldState C) : Type 0 where
@@ -95,9 +107,9 @@ module _ {C : Type 0} (calls : Calls C) where
           on = or_from (is_memory f) (is_halt f) nothing.1 nothing.0;
         }
 
-  pub take_leaves : (h : Host) (w : WorldState C) → w.stopped ≡ false → TakesNothing calls.takes w.carrier h → Leaves calls w (Take h)
+  pub take_leaves : (h : Host) (w : WorldState C) → w.stopped ≡ false → ((seat : Seat) → seat_of h w.seats ≡ Some seat → TakesNothing calls.takes w.carrier h) → Leaves calls w (Take h)
   take_leaves h w running t =
-      let g = seat_gives (λ x r. TakeGives calls h x w r w) (seat_of h w.seats) w (λ seat s found is. take_goes h w s running t) in
+      let g = seat_gives (λ x r. TakeGives calls h x w r w) (seat_of h w.seats) w (λ seat s found is. take_goes h w s running (t seat found)) in
       record { answer = g.answer; step = running_by (EventGives calls w (Take h) g.answer w) w g.answer g.gives w.stopped running; continues = g.on }
 
   -- a message that is refused, or none
@@ -121,11 +133,11 @@ module _ {C : Type 0} (calls : Calls C) where
       (λ seat s found is. next_goes h w s (offer_goes h w s (next_out s) running (found_of (OffersNothing calls w.carrier) h seat w.seats all found s is))) in
       record { answer = g.answer; step = running_by (EventGives calls w (Offer h) g.answer w) w g.answer g.gives w.stopped running; continues = g.on }
 
-  pub rests_by : (w : WorldState C) → w.stopped ≡ false → Rests calls.rounds calls.takes w.carrier → AllOfferNothing calls w.carrier w.seats → IsAtRest calls w
-  rests_by w running rest all = record {
+  pub rests_by : (w : WorldState C) → w.stopped ≡ false → RestsBeside calls.rounds calls.takes w.strangers w.carrier → AreSeatless w → AllOfferNothing calls w.carrier w.seats → IsAtRest calls w
+  rests_by w running rest seatless all = record {
     running = running;
-    round = round_leaves w running rest;
-    takings = λ h. take_leaves h w running (rest.takings h);
+    round = round_leaves w running rest.round;
+    takings = λ h. take_leaves h w running (λ seat found. rest.takings h (seatless h seat found));
     offers = λ h. offer_leaves h w running all;
   }
 
@@ -150,6 +162,8 @@ module _ {C : Type 0} (calls : Calls C) where
   pub rest_passed : (total count : ℕ) (begin now : WorldState C) → Passed calls total count begin now → IsAtRest calls now → Calms calls total begin (Ok tt) now
   rest_passed total count begin now so rest = so (Ok tt) now (calms_still (total - count) now rest)
 
--- a world whose carrier rests, and of which no message goes out
-pub at_rest : {C : Type 0} (own : Calls C) (w : WorldState C) → w.stopped ≡ false → (own.seen w.carrier).stopped ≡ false → Rests own.rounds own.takes w.carrier → AllOfferNothing own w.carrier w.seats → IsAtRest (shown own) w
-at_rest own w running works rest all = rests_by (shown own) w running (rest_shown own w.carrier works rest) (nothing_shown own w.carrier w.seats works all)
+-- a lawful world whose carrier rests beside the strangers, and of which no message goes out
+pub at_rest : {C : Type 0} (own : Calls C) (hosts : List Host) (w : WorldState C) → w.stopped ≡ false → (own.seen w.carrier).stopped ≡ false → RestsBeside own.rounds own.takes w.strangers w.carrier
+    → IsLawfulAmong (strange_in w) own.seen hosts w → AllOfferNothing own w.carrier w.seats → IsAtRest (shown own) w
+at_rest own hosts w running works rest lawful all =
+    rests_by (shown own) w running (rest_shown own w.carrier w.strangers works rest) (lawful_seatless own.seen hosts w running lawful) (nothing_shown own w.carrier w.seats works all)

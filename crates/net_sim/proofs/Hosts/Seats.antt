@@ -6,7 +6,7 @@ use Rattle.interface.specs.declared.crossing.Crossing.TheVariants as crossing
 use Rattle.interface.specs.declared.event.NetEvent.TheVariants as event
 use Rattle.interface.proofs.lemmas.{same_host-true}
 use Rattle.net_sim.specs.Mixed.{AreMixed}
-use Rattle.net_sim.specs.MixedWorlds.{with_programs}
+use Rattle.net_sim.specs.Steps.{with_programs}
 
 -- ---- finding a seat
 

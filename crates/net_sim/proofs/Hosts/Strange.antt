@@ -1,10 +1,10 @@
 -- How an event of a world with strangers ends.
-use Rattle.net_sim.proofs.Common.{◌≡◌, Bool, true, false, List, refl, MatchBool, Calls, Host, is_host, HostMessage, WorldState, WorldFault, EventGives, Refuses, StepGives}
+use Rattle.net_sim.proofs.Common.{◌≡◌, Bool, true, false, List, refl, MatchBool, Calls, Host, is_host, HostMessage, WorldState, WorldFault, EventGives, Refuses}
 use Rattle.std.proofs.Common.{Result}
-use Rattle.net_sim.specs.Inside.Mixed.{mixed_after, mixed_of}
+use Rattle.net_sim.specs.Inside.Held.{among_after, among_of}
 use Rattle.net_sim.specs.Inside.Parts.{HostsState, world_after, world_of}
-use Rattle.net_sim.specs.MixedWorlds.{AskedGives, FetchGives, AmongGives, NoProgram, OutGives, asked_at, is_strange}
-use Rattle.net_sim.specs.World.{Event, Out, Take}
+use Rattle.net_sim.specs.Steps.{AskedGives, FetchGives, AmongGives, OutGives, asked_at, is_strange}
+use Rattle.net_sim.specs.World.{NoProgram, Event, Out, Take}
 use Rattle.net_sim.proofs.Hosts.Anyone.{event_among, fetch_among, out_among}
 
 abbrev Answer : Type 0
@@ -20,10 +20,10 @@ off P Q false is q = q
 
 module _ {C : Type 0} (calls : Calls C) (xs : List Host) (c0 c1 : C) (h0 h1 : HostsState) (r : Answer) where
   abbrev old : WorldState C
-  old = mixed_of c0 h0 xs
+  old = among_of c0 h0 xs
 
   abbrev new : WorldState C
-  new = mixed_after c1 h1 xs r
+  new = among_after c1 h1 xs r
 
   -- as where there are no strangers
   plain : (e : Event) → EventGives calls (world_of c0 h0) e r (world_after c1 h1 r) → EventGives calls old e r new
@@ -31,14 +31,14 @@ module _ {C : Type 0} (calls : Calls C) (xs : List Host) (c0 c1 : C) (h0 h1 : Ho
 
   pub take_strange : (h : Host) → is_host xs h ≡ true → FetchGives calls h (world_of c0 h0) r (world_after c1 h1 r) → AmongGives calls old (Take h) r new
   take_strange h is_one g =
-      on (FetchGives calls h old r new) (StepGives calls old (Take h) r new) (is_host xs h) is_one
+      on (FetchGives calls h old r new) (EventGives calls old (Take h) r new) (is_host xs h) is_one
       (fetch_among calls xs h (world_of c0 h0) r (world_after c1 h1 r) g)
 
   pub take_plain : (h : Host) → is_host xs h ≡ false → EventGives calls (world_of c0 h0) (Take h) r (world_after c1 h1 r) → AmongGives calls old (Take h) r new
-  take_plain h is_none g = off (FetchGives calls h old r new) (StepGives calls old (Take h) r new) (is_host xs h) is_none (plain (Take h) g)
+  take_plain h is_none g = off (FetchGives calls h old r new) (EventGives calls old (Take h) r new) (is_host xs h) is_none (plain (Take h) g)
 
   pub ask_plain : (e : Event) → is_strange (λ h. is_host xs h) (asked_at e) ≡ false → EventGives calls (world_of c0 h0) e r (world_after c1 h1 r) → AskedGives calls old e r new
-  ask_plain e is_none g = off (Refuses NoProgram old r new) (StepGives calls old e r new) (is_strange (λ h. is_host xs h) (asked_at e)) is_none (plain e g)
+  ask_plain e is_none g = off (Refuses NoProgram old r new) (EventGives calls old e r new) (is_strange (λ h. is_host xs h) (asked_at e)) is_none (plain e g)
 
   -- all else
   pub asks : (e : Event) → ((m : HostMessage) → e ≡ Out m → ⊥) → ((h : Host) → e ≡ Take h → ⊥) → AskedGives calls old e r new → AmongGives calls old e r new
@@ -48,8 +48,8 @@ module _ {C : Type 0} (calls : Calls C) (xs : List Host) (c0 c1 : C) (h0 h1 : Ho
 
   pub says_strange : (m : HostMessage) → is_host xs m.flow.source ≡ true → OutGives calls m (world_of c0 h0) r (world_after c1 h1 r) → AmongGives calls old (Out m) r new
   says_strange m is_one g =
-      on (OutGives calls m old r new) (StepGives calls old (Out m) r new) (is_host xs m.flow.source) is_one
+      on (OutGives calls m old r new) (EventGives calls old (Out m) r new) (is_host xs m.flow.source) is_one
       (out_among calls xs m (world_of c0 h0) r (world_after c1 h1 r) g)
 
   pub says_plain : (m : HostMessage) → is_host xs m.flow.source ≡ false → EventGives calls (world_of c0 h0) (Out m) r (world_after c1 h1 r) → AmongGives calls old (Out m) r new
-  says_plain m is_none g = off (OutGives calls m old r new) (StepGives calls old (Out m) r new) (is_host xs m.flow.source) is_none (plain (Out m) g)
+  says_plain m is_none g = off (OutGives calls m old r new) (EventGives calls old (Out m) r new) (is_host xs m.flow.source) is_none (plain (Out m) g)

@@ -1,19 +1,21 @@
 -- A host that is through a reset takes of its peer only what went out after its last clean point.
-use Rattle.net_sim.proofs.Common.{◌≡◌, ℕ, Bool, true, if◌then◌else◌, List, [], ◌∷◌, ◌++◌, length, Some, refl, ap, sym, subst, ◌∙◌, Calls, Seen, Host, same_host, same_flow, Flow, Crossing, HostMessage, run_below, NcpState, pair_with, Box, Waiting, Message, Other, In, Pair, pair, WaitsAfterClean, clean_run, ready_phase, Called, HaveAddresses, IsFresh, IsLawful, IsText, is_through, Agrees, event_of, last_out, events_of, program, contacts_of, crossings_of, events_in, seen_box, shown, Each, IsNamed, seat_in, Seat, WorldFault, WorldState, opening_world, seat_of, StepGives, RunGives, CalmGives}
+use Rattle.net_sim.proofs.Common.{◌≡◌, ℕ, Bool, true, if◌then◌else◌, List, [], ◌∷◌, ◌++◌, length, Some, refl, ap, sym, subst, ◌∙◌, Calls, Seen, Host, same_host, same_flow, Flow, Crossing, HostMessage, run_below, NcpState, pair_with, Box, Waiting, Message, Other, In, Pair, pair, WaitsAfterClean, clean_run, ready_phase, Called, HaveAddresses, IsFresh, IsLawful, IsText, is_through, Agrees, event_of, last_out, events_of, program, contacts_of, crossings_of, events_in, seen_box, shown, Each, IsNamed, seat_in, Seat, WorldFault, WorldState, opening_world, seat_of, StepGives, TurnGives, RunGives, CalmGives}
 use Rattle.std.proofs.Common.{false, Result}
 use Rattle.interface.specs.Mailboxes as mail
 use Rattle.interface.specs.declared.crossing.Crossing.TheVariants as crossing
 use Rattle.reset_law.specs.Boxes.{Empty, Taken}
 use Rattle.reset_law.specs.Events as reset
 use Rattle.reset_law.specs.Runs.{IsRun}
-use Rattle.net_sim.specs.MixedWorlds.{IsLawfulAmong, with_programs}
+use Rattle.net_sim.specs.Clean.{IsLawfulAmong}
+use Rattle.net_sim.specs.Steps.{with_programs}
 use Rattle.reset_law.specs.Stays.{IsPrefix, heard_in_stay, said_in_stay}
 use Rattle.reset_law.proofs.lemmas.{heard_front}
 use Rattle.net_sim.specs.World.{Event}
-use Rattle.net_sim.proofs.Books.Booked.{calm_books, opening_booked, run_books, step_books}
-use Rattle.net_sim.proofs.Books.Reported.{calm_reported, opening_reported, run_reported, step_reported}
+use Rattle.net_sim.proofs.Books.Booked.{calm_books, opening_booked, run_books, turn_books}
+use Rattle.net_sim.proofs.Books.Reported.{calm_reported, opening_reported, run_reported, turn_reported}
 use Rattle.net_sim.proofs.Hosts.Seats.{found_seat}
-use Rattle.net_sim.proofs.Books.Nobody.{calm_whole, opening_whole, run_whole, step_whole}
+use Rattle.net_sim.proofs.Books.Nobody.{calm_whole, opening_whole, run_whole, turn_whole}
+use Rattle.net_sim.proofs.Books.Strangers.{alone}
 use Rattle.net_sim.proofs.Books.Whole.{program_is}
 use Rattle.net_sim.proofs.Books.BookEvents.{box_in, pair_told, run_at, run_told, same_events, told_events}
 use Rattle.net_sim.proofs.Resets.Coupled.{Coupled, coupled}
@@ -125,11 +127,14 @@ opening_lawful own c none addresses = record {
 }
 
 module _ {C : Type 0} (own : Calls C) (hosts : List Host) (old new : WorldState C) (r : Result (Unit {0}) WorldFault) (lawful : IsLawful own.seen hosts old) (run : mail.IsRun hosts (own.seen new.carrier).log) where
-  pub step_lawful : (e : Event) → IsNamed e → StepGives (shown own) old e r new → IsLawful own.seen hosts new
-  step_lawful e named h = record { whole = step_whole own hosts e old r new named lawful.whole h; booked = step_books own e old r new lawful.booked h; run = run; addresses = lawful.addresses; reported = step_reported (shown own) e old r new lawful.reported h }
+  pub turn_lawful : (e : Event) → IsNamed e → TurnGives (shown own) old e r new → IsLawful own.seen hosts new
+  turn_lawful e named h = record { whole = turn_whole own hosts e old r new named lawful.whole h; booked = turn_books own e old r new lawful.booked h; run = run; addresses = lawful.addresses; reported = turn_reported (shown own) e old r new lawful.reported h }
 
-  pub run_lawful : (events : List Event) → Each IsNamed events → RunGives (shown own) old events r new → IsLawful own.seen hosts new
-  run_lawful events named h = record { whole = run_whole own hosts events old r new named lawful.whole h; booked = run_books own events old r new lawful.booked h; run = run; addresses = lawful.addresses; reported = run_reported (shown own) events old r new lawful.reported h }
+  pub step_lawful : old.strangers ≡ [] → (e : Event) → IsNamed e → StepGives (shown own) old e r new → IsLawful own.seen hosts new
+  step_lawful none e named h = turn_lawful e named (alone (shown own) old r new none e h)
+
+  pub run_lawful : old.strangers ≡ [] → (events : List Event) → Each IsNamed events → RunGives (shown own) old events r new → IsLawful own.seen hosts new
+  run_lawful none events named h = record { whole = run_whole own hosts events old r new named none lawful.whole h; booked = run_books own events old r new lawful.booked h; run = run; addresses = lawful.addresses; reported = run_reported (shown own) events old r new lawful.reported h }
 
   pub calm_lawful : (times : ℕ) → CalmGives (shown own) times old r new → IsLawful own.seen hosts new
   calm_lawful times h = record { whole = calm_whole own hosts times old r new lawful.whole h; booked = calm_books own times old r new lawful.booked h; run = run; addresses = lawful.addresses; reported = calm_reported (shown own) times old r new lawful.reported h }

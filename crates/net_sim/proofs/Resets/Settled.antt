@@ -6,7 +6,7 @@ use Rattle.interface.specs.declared.crossing.Inbound.TheVariants as inbound
 use Rattle.ncp_control.specs.Phases as program
 use Rattle.reset_law.specs.Events as reset
 use Rattle.reset_law.specs.Runs.{IsRun}
-use Rattle.net_sim.specs.MixedWorlds.{IsLawfulAmong}
+use Rattle.net_sim.specs.Clean.{IsLawfulAmong}
 use Rattle.net_sim.specs.Story as story
 use Rattle.net_sim.proofs.Books.BookEvents.{box_in, pair_told, run_at, run_told, same_events}
 use Rattle.net_sim.proofs.Resets.Clean.{seen_waiting, waiting_out}

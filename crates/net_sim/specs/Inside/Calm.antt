@@ -5,7 +5,7 @@ use Rattle.interface.specs.Host.{Host}
 use Rattle.interface.specs.Rest.{RefusesOffer}
 use Rattle.sockets.specs.Pairs.{NcpState}
 use Rattle.sockets.specs.Sending.{next_out}
-use Rattle.net_sim.specs.World.{Seat, WorldState, WorldFault, Quiet, Offer, Take, StepGives, Repeats, TurnsOf, stops, up_in}
+use Rattle.net_sim.specs.World.{Seat, WorldState, WorldFault, Quiet, Offer, Take, TurnGives, Repeats, TurnsOf, stops, up_in}
 use Rattle.interface.specs.Calls.{Calls}
 
 -- a host takes up to 16 times, and then offers up to 32 times
@@ -17,7 +17,7 @@ CalmTurn {C} calls h old r new =
 -- a quiet round, and then each host that is up has its turn
 abbrev pub Round : {C : Type 0} → Calls C → WorldState C → Result (Unit {0}) WorldFault → WorldState C → Type 0
 Round {C} calls old r new =
-    (first : Result (Unit {0}) WorldFault) × (quiet : WorldState C) × StepGives calls old Quiet first quiet
+    (first : Result (Unit {0}) WorldFault) × (quiet : WorldState C) × TurnGives calls old Quiet first quiet
     × MatchBool (stops first) ((r ≡ first) × (new ≡ quiet)) (TurnsOf calls (up_in quiet.seats) quiet r new)
 
 -- a host is down, has nothing to say, or is refused what it has to say

@@ -16,8 +16,8 @@ use Rattle.net_sim.specs.Worked.{lacking, message, opened_kept, over, receiver, 
 use Rattle.net_sim.specs.Worked as worked
 use Rattle.net_sim.specs.WorkedMoments.{connected, contacted, eight_sent, notice_of, rts, sent_moments, str}
 use Rattle.net_sim.specs.WorkedResets.{call, contacts}
-use Rattle.net_sim.specs.World.{Ask, Carrier, Offer, Program, StepGives, WorldFault, WorldState, changed, seat_of}
-use Rattle.net_sim.specs.World.{up_in}
+use Rattle.net_sim.specs.Steps.{StepGives}
+use Rattle.net_sim.specs.World.{Ask, Carrier, Offer, Program, WorldFault, WorldState, changed, seat_of, up_in}
 use Rattle.promise.specs.Notices.{FormedNotices}
 use Rattle.promise.specs.Safe.{before, control_flow, last_out, own_request, partner_request}
 use Rattle.reset_law.specs.Events.{Contact, In, Other, Out}

@@ -13,16 +13,15 @@ use Rattle.interface.specs.declared.crossing.Inbound.TheVariants as inbound
 use Rattle.interface.specs.declared.message.HostMessage.{HostMessage}
 use Rattle.ncp_control.specs.Phases.{is_ready}
 use Rattle.net_sim.specs.Carriers.{IsBooked, shown}
-use Rattle.net_sim.specs.Clean.{HaveAddresses, IsFresh, IsLawful, IsText, IsUnheard, is_through}
-use Rattle.net_sim.specs.MixedWorlds.{IsLawfulAmong, MixedRunGives, MixedStepGives, opening_among, strange_in}
+use Rattle.net_sim.specs.Clean.{HaveAddresses, IsFresh, IsLawful, IsText, IsUnheard, is_through, IsLawfulAmong}
+use Rattle.net_sim.specs.Steps.{RunGives, StepGives, opening_among, strange_in}
 use Rattle.net_sim.specs.Projection.{Agrees, IsApart, event_by, event_of, message_on}
 use Rattle.net_sim.specs.Story as story
 use Rattle.net_sim.specs.Story.{Crossed, Moment, places}
 use Rattle.net_sim.specs.Mixed.{Happened}
 use Rattle.net_sim.specs.Timeline.{contacts_of, crossings_of, events_in}
 use Rattle.net_sim.specs.Whole.{Each, IsNamed, IsWhole}
-use Rattle.net_sim.specs.World.{CalmGives, Event, RunGives, StepGives, WorldFault, WorldState}
-use Rattle.net_sim.specs.World.{is_of_strangers, is_sent, opening_world, seat_of}
+use Rattle.net_sim.specs.World.{CalmGives, Event, TurnGives, WorldFault, WorldState, is_of_strangers, is_sent, opening_world, seat_of}
 use Rattle.reset_law.specs.Events.{part_of}
 use Rattle.reset_law.specs.Network.{AreOurs, Network}
 use Rattle.reset_law.specs.Pairs.{MaySend, Pair, pair_moved}
@@ -88,21 +87,31 @@ pub record Books {C : Type 0} (calls : Calls C) : Type 0 where
   pub refused :
       (old new : WorldState C) (e : Event) (r : Result (Unit {0}) WorldFault) (f : WorldFault) → r ≡ Err f →
       StepGives (shown calls) old e r new → new.kept ≡ old.kept
-  -- none but what a stranger would send is refused as `NoProgram` or `HasProgram`, as it may be where there are strangers;
-  -- nor does a list of events or a calm end so
+  pub turn_refused :
+      (old new : WorldState C) (e : Event) (r : Result (Unit {0}) WorldFault) (f : WorldFault) → r ≡ Err f →
+      TurnGives (shown calls) old e r new → new.kept ≡ old.kept
+  -- none but what a stranger would send is refused as `NoProgram` or `HasProgram` where there are no strangers, nor in a
+  -- calm; and no list of events and no calm ends so
   pub answered :
+      (old new : WorldState C) (e : Event) (r : Result (Unit {0}) WorldFault) → old.strangers ≡ [] →
+      is_sent e ≡ false → StepGives (shown calls) old e r new → is_of_strangers r ≡ false
+  pub turn_answered :
       (old new : WorldState C) (e : Event) (r : Result (Unit {0}) WorldFault) → is_sent e ≡ false →
-      StepGives (shown calls) old e r new → is_of_strangers r ≡ false
+      TurnGives (shown calls) old e r new → is_of_strangers r ≡ false
   pub run_answered :
       (old new : WorldState C) (events : List Event) (r : Result (Unit {0}) WorldFault) →
       RunGives (shown calls) old events r new → is_of_strangers r ≡ false
   pub calm_answered :
       (old new : WorldState C) (times : ℕ) (r : Result (Unit {0}) WorldFault) →
       CalmGives (shown calls) times old r new → is_of_strangers r ≡ false
-  -- one event, a list of events, and this many quiet rounds with all that the hosts take and say between them
+  -- one event, one of those of a calm, a list of events, and this many quiet rounds with all that the hosts take and say
+  -- between them
   pub step :
       (old new : WorldState C) (e : Event) (r : Result (Unit {0}) WorldFault) → IsBooked calls.seen old →
       StepGives (shown calls) old e r new → IsBooked calls.seen new
+  pub turn :
+      (old new : WorldState C) (e : Event) (r : Result (Unit {0}) WorldFault) → IsBooked calls.seen old →
+      TurnGives (shown calls) old e r new → IsBooked calls.seen new
   pub run :
       (old new : WorldState C) (events : List Event) (r : Result (Unit {0}) WorldFault) → IsBooked calls.seen old →
       RunGives (shown calls) old events r new → IsBooked calls.seen new
@@ -115,22 +124,26 @@ pub record Books {C : Type 0} (calls : Calls C) : Type 0 where
       (w : WorldState C) → IsBooked calls.seen w → IsRun (calls.seen w.carrier).hosts (calls.seen w.carrier).log →
       SafeMessages w.kept.book.crossings
 
--- The book of a world describes one list of moments, the crossings and what users asked for and weren't refused,
+-- The book of a world without strangers describes one list of moments, the crossings and what users asked for and weren't refused,
 -- whatever the carrier is made of. All that is kept, except for what services report, is theirs, and until memory runs
 -- out each host has the program that comes of them.
 pub record Worlds {C : Type 0} (calls : Calls C) : Type 0 where
   -- over a carrier whose log is empty
   pub opening :
       (c : C) → (calls.seen c).log ≡ [] → IsWhole calls.seen (calls.seen c).hosts (opening_world (shown calls) c)
-  -- after one event, a list of events, and this many quiet rounds with all that the hosts take and say between them,
-  -- where users name hosts by addresses, and sockets by numbers of their types
+  -- after one event, one of those of a calm, a list of events, and this many quiet rounds with all that the hosts take
+  -- and say between them, where users name hosts by addresses, and sockets by numbers of their types
   pub step :
       (hosts : List Host) (old new : WorldState C) (e : Event) (r : Result (Unit {0}) WorldFault) → IsNamed e →
-      IsWhole calls.seen hosts old → StepGives (shown calls) old e r new → IsWhole calls.seen hosts new
+      old.strangers ≡ [] → IsWhole calls.seen hosts old → StepGives (shown calls) old e r new →
+      IsWhole calls.seen hosts new
+  pub turn :
+      (hosts : List Host) (old new : WorldState C) (e : Event) (r : Result (Unit {0}) WorldFault) → IsNamed e →
+      IsWhole calls.seen hosts old → TurnGives (shown calls) old e r new → IsWhole calls.seen hosts new
   pub run :
       (hosts : List Host) (old new : WorldState C) (events : List Event) (r : Result (Unit {0}) WorldFault) →
-      Each IsNamed events → IsWhole calls.seen hosts old → RunGives (shown calls) old events r new →
-      IsWhole calls.seen hosts new
+      Each IsNamed events → old.strangers ≡ [] → IsWhole calls.seen hosts old →
+      RunGives (shown calls) old events r new → IsWhole calls.seen hosts new
   pub calm :
       (hosts : List Host) (old new : WorldState C) (times : ℕ) (r : Result (Unit {0}) WorldFault) →
       IsWhole calls.seen hosts old → CalmGives (shown calls) times old r new → IsWhole calls.seen hosts new
@@ -178,30 +191,35 @@ pub record CleanTakings {C : Type 0} (calls : Calls C) : Type 0 where
       IsUnheard (story.program m.flow.destination older)
       (accepted (story.program m.flow.destination older) (inbound.Message m) (places older))
 
--- The worlds of which that is said: those that began over a carrier whose log is empty, between hosts with addresses,
--- however they continued.
+-- The worlds without strangers of which that is said: those that began over a carrier whose log is empty, between hosts
+-- with addresses, however they continued.
 pub record LawfulWorlds {C : Type 0} (calls : Calls C) : Type 0 where
   pub opening :
       (c : C) → (calls.seen c).log ≡ [] → HaveAddresses (calls.seen c).hosts →
       IsLawful calls.seen (calls.seen c).hosts (opening_world (shown calls) c)
-  -- by one event, a list of events and this many quiet rounds, where users name hosts by addresses and the carrier's
-  -- log is still a run of the mailboxes
+  -- by one event, one of those of a calm, a list of events and this many quiet rounds, where users name hosts by
+  -- addresses and the carrier's log is still a run of the mailboxes
   pub step :
       (hosts : List Host) (old new : WorldState C) (e : Event) (r : Result (Unit {0}) WorldFault) →
-      IsLawful calls.seen hosts old → IsNamed e → StepGives (shown calls) old e r new →
+      old.strangers ≡ [] → IsLawful calls.seen hosts old → IsNamed e → StepGives (shown calls) old e r new →
+      IsRun hosts (calls.seen new.carrier).log → IsLawful calls.seen hosts new
+  pub turn :
+      (hosts : List Host) (old new : WorldState C) (e : Event) (r : Result (Unit {0}) WorldFault) →
+      IsLawful calls.seen hosts old → IsNamed e → TurnGives (shown calls) old e r new →
       IsRun hosts (calls.seen new.carrier).log → IsLawful calls.seen hosts new
   pub run :
       (hosts : List Host) (old new : WorldState C) (events : List Event) (r : Result (Unit {0}) WorldFault) →
-      IsLawful calls.seen hosts old → Each IsNamed events → RunGives (shown calls) old events r new →
-      IsRun hosts (calls.seen new.carrier).log → IsLawful calls.seen hosts new
+      old.strangers ≡ [] → IsLawful calls.seen hosts old → Each IsNamed events →
+      RunGives (shown calls) old events r new → IsRun hosts (calls.seen new.carrier).log →
+      IsLawful calls.seen hosts new
   pub calm :
       (hosts : List Host) (old new : WorldState C) (times : ℕ) (r : Result (Unit {0}) WorldFault) →
       IsLawful calls.seen hosts old → CalmGives (shown calls) times old r new →
       IsRun hosts (calls.seen new.carrier).log → IsLawful calls.seen hosts new
 
--- The same of worlds with strangers: whatever these send and take, all that is kept of the hosts with programs is what
--- their programs say.
-pub record MixedWorlds {C : Type 0} (calls : Calls C) : Type 0 where
+-- The same of all worlds: whatever strangers send and take, all that is kept of the hosts with programs is what their
+-- programs say.
+pub record WorldsAmong {C : Type 0} (calls : Calls C) : Type 0 where
   pub opening :
       (strangers : List Host) (c : C) → (calls.seen c).log ≡ [] → HaveAddresses (calls.seen c).hosts →
       ((h : Host) → is_host strangers h ≡ true → is_host (calls.seen c).hosts h ≡ true) →
@@ -210,19 +228,36 @@ pub record MixedWorlds {C : Type 0} (calls : Calls C) : Type 0 where
   pub step :
       (hosts : List Host) (old new : WorldState C) (e : Event) (r : Result (Unit {0}) WorldFault) →
       IsLawfulAmong (strange_in old) calls.seen hosts old → IsNamed e →
-      MixedStepGives (shown calls) old e r new → IsRun hosts (calls.seen new.carrier).log →
+      StepGives (shown calls) old e r new → IsRun hosts (calls.seen new.carrier).log →
+      IsLawfulAmong (strange_in new) calls.seen hosts new
+  -- by one of those of a calm, in which strangers do nothing
+  pub turn :
+      (hosts : List Host) (old new : WorldState C) (e : Event) (r : Result (Unit {0}) WorldFault) →
+      IsLawfulAmong (strange_in old) calls.seen hosts old → IsNamed e →
+      TurnGives (shown calls) old e r new → IsRun hosts (calls.seen new.carrier).log →
       IsLawfulAmong (strange_in new) calls.seen hosts new
   -- by a list of events, and by this many quiet rounds, in which strangers take nothing
   pub run :
       (hosts : List Host) (old new : WorldState C) (events : List Event) (r : Result (Unit {0}) WorldFault) →
       IsLawfulAmong (strange_in old) calls.seen hosts old → Each IsNamed events →
-      MixedRunGives (shown calls) old events r new → IsRun hosts (calls.seen new.carrier).log →
+      RunGives (shown calls) old events r new → IsRun hosts (calls.seen new.carrier).log →
       IsLawfulAmong (strange_in new) calls.seen hosts new
   pub calm :
       (hosts : List Host) (old new : WorldState C) (times : ℕ) (r : Result (Unit {0}) WorldFault) →
       IsLawfulAmong (strange_in old) calls.seen hosts old → CalmGives (shown calls) times old r new →
       IsRun hosts (calls.seen new.carrier).log → IsLawfulAmong (strange_in new) calls.seen hosts new
-  -- without strangers such a world is lawful as any world is, and a lawful one is such a world
+  -- where there are no strangers an event happens as those of a calm do
+  pub alone :
+      (old new : WorldState C) (e : Event) (r : Result (Unit {0}) WorldFault) → old.strangers ≡ [] →
+      StepGives (shown calls) old e r new → TurnGives (shown calls) old e r new
+  -- no event and no calm changes who the strangers are
+  pub same :
+      (old new : WorldState C) (e : Event) (r : Result (Unit {0}) WorldFault) → StepGives (shown calls) old e r new →
+      new.strangers ≡ old.strangers
+  pub calm_same :
+      (old new : WorldState C) (times : ℕ) (r : Result (Unit {0}) WorldFault) → CalmGives (shown calls) times old r new →
+      new.strangers ≡ old.strangers
+  -- without strangers such a world is lawful as those are, and a lawful one is such a world
   pub nobody :
       (strange : Host → Bool) (hosts : List Host) (w : WorldState C) → ((h : Host) → strange h ≡ false) →
       IsLawfulAmong strange calls.seen hosts w → IsLawful calls.seen hosts w

@@ -1,8 +1,11 @@
 -- An output leaves out no line that its trace has as printed: a line whose event printed something is read in no other way.
-use Rattle.simulator.proofs.Common.{◌≡◌, ℕ, List, [], ◌∷◌, ◌++◌, Bool, false, Option, None, Some, codes, map, length, arith, refl, sym, ap, ◌∙◌, length-map, Crossing, text_of, ended_line, flat_map, Host, spelling, RawEvent, WorldEvent, OfElement, OfWorld, PrintsTrace, Recorded, printed_lines, recorded_text, book_text}
-use Rattle.std.proofs.Common.{◌==◌}
-use Rattle.std.proofs.Common.{append_assoc, length-append, lit<}
-use Rattle.std.proofs.lemmas.List.{append_cancel_left}
+use Rattle.simulator.proofs.Common.{Crossing, text_of, ended_line, Host, RawEvent, WorldEvent}
+use Rattle.std.proofs.Common.{◌≡◌, ℕ, List, [], ◌∷◌, ◌++◌, Bool, false, Option, None, Some, codes, map, length, arith, refl, sym, ap, ◌∙◌, ◌==◌, append_assoc, length-append, lit<}
+use Rattle.std.proofs.lemmas.List.{length-map, append_cancel_left}
+use Rattle.std.specs.List.{flat_map}
+use Rattle.script.specs.Spelling.{spelling, net_spelling}
+use Rattle.simulator.specs.Recorded.{OfElement, OfWorld, PrintsTrace, Recorded, printed_lines, recorded_text, unforgotten}
+use Rattle.command_line.specs.Replayed.{book_text}
 use Rattle.std.proofs.lemmas.List.Elements.{All-append, All-cons}
 use Rattle.std.specs.Fmt.{decimal}
 use Rattle.sockets.specs.declared.request.Request.{Request}
@@ -12,7 +15,6 @@ use Rattle.interface.specs.declared.event.NetEvent.{NetEvent}
 use Rattle.interface.specs.declared.event.NetEvent.TheVariants as net
 use Rattle.net_sim.specs.declared.event.Event.TheVariants as event
 use Rattle.script.proofs.lemmas.{same_cut, unmarked_where}
-use Rattle.script.specs.Spelling.{net_spelling}
 use Rattle.script.specs.Steps.{Lacks}
 use Rattle.script.specs.declared.event.RawEvent.TheVariants as script
 use Rattle.trace.proofs.lemmas.{decimal_lacks, first_same, other_first, rest_same}
@@ -21,7 +23,6 @@ use Rattle.trace.specs.declared.fate.Fate.{Fate}
 use Rattle.world_script.specs.WorldSpelling.{request_spelling}
 use Rattle.world_script.specs.declared.event.WorldEvent.TheVariants as world
 use Rattle.world_trace.specs.Texts.{event_text, lines_text}
-use Rattle.simulator.specs.Recorded.{unforgotten}
 
 -- a list with an item is not empty
 none_left : {X : Type 0} {x : X} {xs : List X} → [] ≡ x ∷ xs → ⊥

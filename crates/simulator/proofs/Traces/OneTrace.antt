@@ -1,23 +1,26 @@
--- An input leaves its trace no choice.
-use Rattle.simulator.proofs.Common.{◌≡◌, inl, inr, ℕ, List, [], ◌∷◌, ◌++◌, Some, sym, ap, ap₂, subst, ◌∙◌, HappensOnce, ShowsFront, text_of, Calls, AreSettled, ends_front, in_turn_once, parted_once, RawEvent, TopologyFields, CarrierKind, shown, WorldState, opening_world, Event, SameGains, gains_once, happens_once, shown_settled, EndsRound, WorldEvent, opening_text, world_line, StopsOne, TellsIn, TellsInCalm, TellsOne, TellsRound, change_of, first_rounds, state_of, object, opening_line, Spot, Inside, TellsEvent, asking_from, numbered_from, plain_inside, plain_calls, subnet_calls, subnet_inside, plain_of, subnet_of, Raw, World, EndsAll, IsScripted, TracesAll, TracesFrom, TracesInput, TracesOn, TracesOver, WorldEndsFrom, WorldTracesFrom, members_of, AllParts, subnet_settled, plain_settled, Asked, EndsOn, EndsOver, OneInput, input_once}
-use Rattle.std.proofs.Common.{zip}
+-- Events leave their trace no choice, without host programs or with them.
+use Rattle.simulator.proofs.Common.{HappensOnce, ShowsFront, text_of, Calls, AreSettled, parted_once, RawEvent, TopologyFields, CarrierKind, shown, WorldState, opening_world, Event, SameGains, gains_once, happens_once, shown_settled, WorldEvent, opening_text, world_line, object, opening_line, Spot, plain_calls, subnet_calls, subnet_inside, plain_of, subnet_of, Raw, World, Asked, members_of, AllParts, subnet_settled}
+use Rattle.std.proofs.Common.{◌≡◌, inl, inr, ℕ, List, [], ◌∷◌, ◌++◌, Some, sym, ap, ap₂, subst, ◌∙◌, zip}
+use Rattle.replay.proofs.lemmas.{ends_front, in_turn_once, text_of-append}
+use Rattle.world_replay.specs.Rounds.{EndsRound}
+use Rattle.world_trace.specs.Traces.{StopsOne, TellsIn, TellsInCalm, TellsOne, TellsRound, change_of, first_rounds, state_of, EndsIn, IsHeard, IsSilent, IsUnchanged, TellsStep}
+use Rattle.trace.specs.Traces.{Inside, TellsEvent, asking_from, numbered_from, plain_inside, EndsEvent, StopsElement}
+use Rattle.simulator.specs.Traced.{EndsAll, IsScripted, TracesAll, TracesFrom, TracesInput, TracesOn, TracesOver, WorldEndsFrom, WorldTracesFrom, EndsOn, EndsOver, EndsFrom, TraceStops}
+use Rattle.trace.proofs.lemmas.{plain_settled, event_front, event_once}
+use Rattle.command_line.proofs.lemmas.{OneInput, input_once}
 use Rattle.std.proofs.lemmas.List.{append_assoc}
-use Rattle.replay.proofs.lemmas.{text_of-append}
 use Rattle.topology.specs.declared.network.CarrierKind.TheVariants as kind
 use Rattle.world_replay.specs.Gains.{Gains}
 use Rattle.world_replay.specs.Output.{Shown as Printed}
 use Rattle.world_script.specs.declared.event.WorldEvent.TheVariants as worlds
-use Rattle.world_trace.specs.Traces.{EndsIn, IsHeard, IsSilent, IsUnchanged, TellsStep}
-use Rattle.trace.specs.Traces.{EndsEvent, StopsElement}
-use Rattle.simulator.specs.Traced.{EndsFrom, TraceStops}
-use Rattle.simulator.proofs.InCalm.{in_calm_once, round_front, round_once}
-use Rattle.trace.proofs.lemmas.{event_front, event_once}
+use Rattle.simulator.proofs.InCalm.{round_front, round_once}
+use Rattle.world_replay.proofs.lemmas.Once.{in_calm_once}
 
 -- ---- events have one trace
 
-from_once : {C : Type 0} (calls : Calls C) (inside : Inside C) → AreSettled calls → (t : TopologyFields) (opening : C) (events : List (ℕ × RawEvent)) (before after other : List ℕ) → TracesFrom calls inside t opening events (Some before) (Some after)
+pub raw_once : {C : Type 0} (calls : Calls C) (inside : Inside C) → AreSettled calls → (t : TopologyFields) (opening : C) (events : List (ℕ × RawEvent)) (before after other : List ℕ) → TracesFrom calls inside t opening events (Some before) (Some after)
     → TracesFrom calls inside t opening events (Some before) (Some other) → after ≡ other
-from_once calls inside settled t opening events before after other h k =
+raw_once calls inside settled t opening events before after other h k =
     let one : (h.last ≡ k.last) × (h.traced.is_shown.0 ≡ k.traced.is_shown.0) =
     in_turn_once (TellsEvent calls inside) (event_once calls inside settled) opening (numbered_from 1 events) h.last k.last h.traced.is_shown.0 k.traced.is_shown.0 h.traced.is_shown.2 k.traced.is_shown.2 in
     let same : h.traced.shown ≡ k.traced.shown = h.traced.is_shown.1 ∙ ap (λ ls. opening_line t (object (members_of (inside.members opening))) ∷ ls) one.1 ∙ sym k.traced.is_shown.1 in
@@ -33,9 +36,9 @@ text_front before part whole lines all more is are parts =
       are ∙ ap (λ ls. before ++ text ls) parts ∙ ap (λ xs. before ++ xs) (text_of-append (λ line. line) lines more) ∙ sym (append_assoc before (text lines) (text more)) ∙ ap (λ xs. xs ++ text more) (sym is),
     )
 
-from_front : {C : Type 0} (calls : Calls C) (inside : Inside C) → AreSettled calls → (t : TopologyFields) (opening : C) (events : List (ℕ × RawEvent)) (before part whole : List ℕ) → EndsFrom calls inside t opening events (Some before) (Some part)
+pub raw_front : {C : Type 0} (calls : Calls C) (inside : Inside C) → AreSettled calls → (t : TopologyFields) (opening : C) (events : List (ℕ × RawEvent)) (before part whole : List ℕ) → EndsFrom calls inside t opening events (Some before) (Some part)
     → TracesFrom calls inside t opening events (Some before) (Some whole) → (rest : List ℕ) × (whole ≡ part ++ rest)
-from_front calls inside settled t opening events before part whole h k =
+raw_front calls inside settled t opening events before part whole h k =
     let starts : (more : List (List ℕ)) × (k.traced.is_shown.0 ≡ h.traced.is_shown.0 ++ more) =
     ends_front (TellsEvent calls inside) (EndsEvent calls inside (StopsElement calls)) (event_once calls inside settled) (event_front calls inside settled) opening (numbered_from 1 events) h.last k.last h.traced.is_shown.0 k.traced.is_shown.0
     h.traced.is_shown.2 k.traced.is_shown.2 in
@@ -87,7 +90,7 @@ pub at_once : {C : Type 0} (calls : Calls C) (members : C → AllParts) → AreS
 at_once calls members settled old (spot, worlds.Happen e) new other lines more h k = told_once calls members settled spot 0 old (worlds.Happen e) new other lines more h k
 at_once calls members settled old (spot, worlds.Calm rounds) new other lines more h k = in_turn_once (TellsRound calls members spot) (told_round calls members settled spot) old (first_rounds rounds) new other lines more h k
 
-world_once : {C : Type 0} (calls : Calls C) (members : C → AllParts) → AreSettled calls → (t : TopologyFields) (opening : C) (events : List (ℕ × WorldEvent)) (before after other : List ℕ) → WorldTracesFrom calls members t opening events (Some before) (Some after)
+pub world_once : {C : Type 0} (calls : Calls C) (members : C → AllParts) → AreSettled calls → (t : TopologyFields) (opening : C) (events : List (ℕ × WorldEvent)) (before after other : List ℕ) → WorldTracesFrom calls members t opening events (Some before) (Some after)
     → WorldTracesFrom calls members t opening events (Some before) (Some other) → after ≡ other
 world_once {C} calls members settled t opening events before after other h k =
     let begins : WorldState C = opening_world calls opening in
@@ -113,7 +116,7 @@ at_front {C} calls members settled old (spot, worlds.Calm rounds) new other part
     let Stops = λ (o : WorldState C) (n : ℕ) (w : WorldState C) (ls : List (List ℕ)). EndsRound (TellsInCalm calls members spot n) (StopsOne calls) o w ls in
     ends_front (TellsRound calls members spot) Stops (told_round calls members settled spot) (in_round calls members settled spot) old (first_rounds rounds) new other part lines h k
 
-world_front : {C : Type 0} (calls : Calls C) (members : C → AllParts) → AreSettled calls → (t : TopologyFields) (opening : C) (events : List (ℕ × WorldEvent)) (before part all : List ℕ) → WorldEndsFrom calls members t opening events (Some before) (Some part)
+pub world_front : {C : Type 0} (calls : Calls C) (members : C → AllParts) → AreSettled calls → (t : TopologyFields) (opening : C) (events : List (ℕ × WorldEvent)) (before part all : List ℕ) → WorldEndsFrom calls members t opening events (Some before) (Some part)
     → WorldTracesFrom calls members t opening events (Some before) (Some all) → (rest : List ℕ) × (all ≡ part ++ rest)
 world_front {C} calls members settled t opening events before part all h k =
     let begins : WorldState C = opening_world calls opening in
@@ -122,53 +125,3 @@ world_front {C} calls members settled t opening events before part all h k =
     h.traced.is_shown.2 k.traced.is_shown.2 in
     text_front before part all h.traced.shown k.traced.shown starts.0 h.traced.written k.traced.written
     (k.traced.is_shown.1 ∙ ap (λ ls. opening_text t (state_of members begins) ∷ ls) starts.1 ∙ ap (λ ls. ls ++ starts.0) (sym h.traced.is_shown.1))
-
--- ---- of either kind
-
-all_once : {C : Type 0} (calls : Calls C) (inside : Inside C) → AreSettled calls → (t : TopologyFields) (opening : C) (lines : List ℕ) (events : Asked) (before after other : List ℕ) → TracesAll calls inside t opening lines events (Some before) (Some after)
-    → TracesAll calls inside t opening lines events (Some before) (Some other) → after ≡ other
-all_once calls inside settled t opening lines (Raw events) before after other h k = from_once calls inside settled t opening (zip lines events) before after other h k
-all_once calls inside settled t opening lines (World events) before after other h k = world_once (shown calls) inside.members (shown_settled calls settled) t opening (zip lines events) before after other h k
-
-all_front : {C : Type 0} (calls : Calls C) (inside : Inside C) → AreSettled calls → (t : TopologyFields) (opening : C) (lines : List ℕ) (events : Asked) (before part whole : List ℕ) → EndsAll calls inside t opening lines events (Some before) (Some part)
-    → TracesAll calls inside t opening lines events (Some before) (Some whole) → (rest : List ℕ) × (whole ≡ part ++ rest)
-all_front calls inside settled t opening lines (Raw events) before part whole h k = from_front calls inside settled t opening (zip lines events) before part whole h k
-all_front calls inside settled t opening lines (World events) before part whole h k = world_front (shown calls) inside.members (shown_settled calls settled) t opening (zip lines events) before part whole h k
-
--- ---- of a topology
-
-over_once : (carrier : CarrierKind) (network : TopologyFields) (lines : List ℕ) (events : Asked) (before after other : List ℕ) → TracesOver carrier network lines events (Some before) (Some after) → TracesOver carrier network lines events (Some before) (Some other) → after ≡ other
-over_once kind.Plain network lines events before after other h k = all_once plain_calls plain_inside plain_settled network (plain_of network) lines events before after other h k
-over_once kind.Subnet network lines events before after other h k = all_once subnet_calls subnet_inside subnet_settled network (subnet_of network) lines events before after other h k
-
-over_front : (carrier : CarrierKind) (network : TopologyFields) (lines : List ℕ) (events : Asked) (before part whole : List ℕ) → EndsOver carrier network lines events (Some before) (Some part) → TracesOver carrier network lines events (Some before) (Some whole) → (rest : List ℕ) × (whole ≡ part ++ rest)
-over_front kind.Plain network lines events before part whole h k = all_front plain_calls plain_inside plain_settled network (plain_of network) lines events before part whole h k
-over_front kind.Subnet network lines events before part whole h k = all_front subnet_calls subnet_inside subnet_settled network (subnet_of network) lines events before part whole h k
-
--- ---- of an input
-
--- its lines
-lines_once : (octets : List ℕ) (network other : TopologyFields) (lines more : List ℕ) (events asked : Asked) → IsScripted octets network lines events → IsScripted octets other more asked → lines ≡ more
-lines_once octets network other lines more events asked h k =
-    let scripts = parted_once octets h.parted.document h.script k.parted.document k.script h.parted.parted k.parted.parted in
-    h.numbered ∙ ap (asking_from 1) scripts.scripts ∙ sym k.numbered
-
-pub one_trace : (input before after other : List ℕ) → TracesInput input (Some before) (Some after) → TracesInput input (Some before) (Some other) → after ≡ other
-one_trace input before after other h k =
-    let same : OneInput h.network k.network h.events k.events = input_once input h.network k.network h.events k.events h.input.input k.input.input in
-    let lines : h.lines ≡ k.lines = lines_once input h.network k.network h.lines k.lines h.events k.events h.input k.input in
-    let moved : TracesOn k.network k.lines k.events (Some before) (Some after) =
-    subst (λ (network : TopologyFields). TracesOn network k.lines k.events (Some before) (Some after)) same.same_network
-    (subst (λ (events : Asked). TracesOn h.network k.lines events (Some before) (Some after)) same.same_events
-    (subst (λ (numbers : List ℕ). TracesOn h.network numbers h.events (Some before) (Some after)) lines h.traced)) in
-    over_once k.network.carrier k.network k.lines k.events before after other moved k.traced
-
-pub first_of_trace : (input before part whole : List ℕ) → TraceStops input (Some before) (Some part) → TracesInput input (Some before) (Some whole) → (rest : List ℕ) × (whole ≡ part ++ rest)
-first_of_trace input before part whole h k =
-    let same : OneInput h.network k.network h.events k.events = input_once input h.network k.network h.events k.events h.input.input k.input.input in
-    let lines : h.lines ≡ k.lines = lines_once input h.network k.network h.lines k.lines h.events k.events h.input k.input in
-    let moved : EndsOn k.network k.lines k.events (Some before) (Some part) =
-    subst (λ (network : TopologyFields). EndsOn network k.lines k.events (Some before) (Some part)) same.same_network
-    (subst (λ (events : Asked). EndsOn h.network k.lines events (Some before) (Some part)) same.same_events
-    (subst (λ (numbers : List ℕ). EndsOn h.network numbers h.events (Some before) (Some part)) lines h.stopped)) in
-    over_front k.network.carrier k.network k.lines k.events before part whole moved k.traced

@@ -1,16 +1,16 @@
 -- What `--trace` writes is the trace of the input's script.
-use Rattle.simulator.proofs.Common.{◌≡◌, ◌⊎◌, ◌∙◌, inl, inr, ℕ, ◌+◌, Bool, true, false, List, [], ◌∷◌, Option, Result, Ok, Err, OnOk, ap, refl, subst, sym, length-map, Keeps, text_of, Calls, parted_once, RawEvent, TopologyFields, CarrierKind, Inside, asking_from, WorldState, opening_world, StopsOne, WorldEvent, AsksFor, Raw, World, IsScriptOf, TracesFrom, TracesOn, TracesOver, WorldEndsFrom, WorldTracesFrom, asked_count, ScriptFault, IsEvent, AllParts, suc, length, spelling, event_lines, Asked, EndsOn, EndsOver, stays}
-use Rattle.std.proofs.Common.{◌≢◌}
-use Rattle.std.proofs.Common.{IfErr}
+use Rattle.simulator.proofs.Common.{are_some, Keeps, text_of, Calls, parted_once, RawEvent, TopologyFields, CarrierKind, WorldState, opening_world, WorldEvent, AsksFor, Raw, World, Asked, ScriptFault, AllParts, stays}
+use Rattle.world_script.specs.WorldSpelling.{IsWorldEvent, world_spelling}
+use Rattle.std.proofs.Common.{◌≡◌, ◌⊎◌, ◌∙◌, inl, inr, ℕ, ◌+◌, Bool, true, false, List, [], ◌∷◌, Option, Result, Ok, Err, OnOk, ap, refl, subst, sym, suc, length, ◌≢◌, IfErr, filter}
+use Rattle.std.proofs.lemmas.List.{length-map}
+use Rattle.trace.specs.Traces.{Inside, asking_from, event_lines, AfterOpening, Traces, WritesTrace}
+use Rattle.world_trace.specs.Traces.{StopsOne, TracesWorld, WorldTraceEnds}
+use Rattle.simulator.specs.Traced.{IsScriptOf, TracesFrom, TracesOn, TracesOver, WorldEndsFrom, WorldTracesFrom, asked_count, EndsOn, EndsOver, Traced}
+use Rattle.script.specs.Spelling.{IsEvent, spelling}
 use Rattle.command_line.specs.Input.{IsInput}
 use Rattle.command_line.specs.Steps.{IsReplayFault}
-use Rattle.std.proofs.Common.{filter}
 use Rattle.script.specs.Script.{AskForAs, asks, lines_of}
-use Rattle.trace.specs.Traces.{AfterOpening, Traces, WritesTrace}
 use Rattle.world_trace.specs.Traces as worlds
-use Rattle.world_trace.specs.Traces.{TracesWorld, WorldTraceEnds}
-use Rattle.world_script.specs.WorldSpelling.{IsWorldEvent, world_spelling}
-use Rattle.simulator.specs.Traced.{Traced}
 use Rattle.command_line.specs.declared.fault.ScriptFault.TheVariants as fault
 
 -- ---- over a carrier
@@ -61,20 +61,20 @@ asking_counts number (l ∷ ls) = by (asking_counts (number + 1) ls) (asks l) re
   by more true e = rw e (ap (λ (n : ℕ). suc n) more)
   by more false e = rw e more
 
-pub as_many : {E : Type 0} (spell : E → List ℕ) (IsMeant : E → Type 0) (events : List E) (ls : List (List ℕ)) → AskForAs spell IsMeant events ls → length (asking_from 1 ls) ≡ length events
+as_many : {E : Type 0} (spell : E → List ℕ) (IsMeant : E → Type 0) (events : List E) (ls : List (List ℕ)) → AskForAs spell IsMeant events ls → length (asking_from 1 ls) ≡ length events
 as_many spell IsMeant events ls asked = asking_counts 1 ls ∙ sym (ap length asked.spelled) ∙ length-map events spell
 
-asked_many : (raw : Bool) (events : Asked) (script : List ℕ) → AsksFor raw events (lines_of script) → length (event_lines script) ≡ asked_count events
-asked_many true (Raw events) script asked = as_many spelling IsEvent events (lines_of script) asked
-asked_many true (World events) script asked = absurd asked
-asked_many false (Raw events) script asked = absurd asked
-asked_many false (World events) script asked = as_many world_spelling (IsWorldEvent false) events (lines_of script) asked
+asked_many : (raw among : Bool) (events : Asked) (script : List ℕ) → AsksFor raw among events (lines_of script) → length (event_lines script) ≡ asked_count events
+asked_many true among (Raw events) script asked = as_many spelling IsEvent events (lines_of script) asked
+asked_many true among (World events) script asked = absurd asked
+asked_many false among (Raw events) script asked = absurd asked
+asked_many false among (World events) script asked = as_many world_spelling (IsWorldEvent among) events (lines_of script) asked
 
 -- an input's script has a line for each event
 pub lines_fit : (octets script : List ℕ) (network : TopologyFields) (events : Asked) → IsInput octets network events → IsScriptOf octets script → length (event_lines script) ≡ asked_count events
 lines_fit octets script network events input parted =
     let same = parted_once octets parted.document script input.document input.script parted.parted input.parted in
-    ap (λ ls. length (asking_from 1 ls)) same.scripts ∙ asked_many network.raw events input.script input.asked
+    ap (λ ls. length (asking_from 1 ls)) same.scripts ∙ asked_many network.raw (are_some network.strangers) events input.script input.asked
 
 -- ---- faults
 

@@ -37,13 +37,13 @@ no_frame : (n : Net) (l : ℕ) (d : Direction) (a b : Bool) → nat_lt l (length
 no_frame n l d false b past empty refused =
     let beyond : length n.lines ≤ l = grind (arith, nat_tests) in
     ap (frames_on d) (get_or_past n.lines l no_wire beyond) ∙ no_frame_in d
-no_frame n l d true false within empty refused = none_past (frames_on d (wire_at n.lines l)) empty
+no_frame n l d true false within empty refused = none_past _ empty
 no_frame n l d true true within empty refused = cc
 
 pub lost_none : (n : Net) (l : ℕ) (d : Direction) → frame_refusal n l d 0 ≡ Some fault.NoSuch → n ≡ drop_frame n l d 0
 lost_none n l d refused =
     let empty : frames_on d (wire_at n.lines l) ≡ [] = no_frame n l d _ _ refl refl refused in
-    ap (λ (lines : List Wire). record n { lines = lines }) (sym (ap (set n.lines l) (dropped_none d (wire_at n.lines l) empty) ∙ set-get_or n.lines l no_wire))
+    ap (λ (lines : List Wire). record n { lines = lines }) (sym (ap (set n.lines l) (dropped_none d _ empty) ∙ set-get_or n.lines l no_wire))
 
 pub delivered_none : (n : Net) (l : ℕ) (d : Direction) → frame_refusal n l d 0 ≡ Some fault.NoSuch → n ≡ deliver n l d 0
 delivered_none n l d refused =

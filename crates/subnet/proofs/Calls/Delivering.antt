@@ -11,11 +11,11 @@ above_none n = grind (arith, nat_tests)
 
 some_bits : (bits : List Bool) → (bits ≡ [] → ⊥) → nat_lt 0 (length bits) ≡ true
 some_bits [] filled = absurd (filled refl)
-some_bits (b ∷ bits) filled = rw (← add-one (length bits)) (above_none (length bits))
+some_bits (b ∷ bits) filled = rw (← add-one (length bits)) (above_none _)
 
 -- a copy needs memory only for bits
 pub copy_wanted : (f : Frame) → (bits_carried f.content ≡ [] → ⊥) → copy_grows f ≡ true
-copy_wanted f filled = some_bits (bits_carried f.content) filled
+copy_wanted f filled = some_bits _ filled
 
 -- ---- what a delivery is
 
@@ -26,10 +26,10 @@ down_alike (Some s) n i call down = cc
 
 delivered_down : (n : Net) (l : ℕ) (d : Direction) (f : Option Frame) → imp_is_up (imp_at n.imps (far_end d (wire_at n.lines l))) ≡ false → n ≡ delivered n l d f
 delivered_down n l d None down = refl
-delivered_down n l d (Some f) down = sym (down_alike (imp_at n.imps (far_end d (wire_at n.lines l))) n (far_end d (wire_at n.lines l)) _ down)
+delivered_down n l d (Some f) down = sym (down_alike _ n _ _ down)
 
 pub not_brought : (n : Net) (l : ℕ) (d : Direction) (k : ℕ) → imp_is_up (imp_at n.imps (far_end d (wire_at n.lines l))) ≡ false → n ≡ deliver n l d k
-not_brought n l d k down = delivered_down n l d (slice_get (frames_on d (wire_at n.lines l)) k) down
+not_brought n l d k down = delivered_down n l d _ down
 
 -- nothing comes in where no frame is
 pub none_brought : (n : Net) (l : ℕ) (d : Direction) (k : ℕ) → slice_get (frames_on d (wire_at n.lines l)) k ≡ None → n ≡ deliver n l d k
@@ -57,7 +57,7 @@ either_grows (Some s) a g h = or_right a (g s) h
 bring_grows : (n : Net) (l : ℕ) (d : Direction) (k i p : ℕ) (f : Frame) → slice_get (frames_on d (wire_at n.lines l)) k ≡ Some f → i ≡ far_end d (wire_at n.lines l) → p ≡ port_of n.lines i l → grows_at (imp_at n.imps i) (call_grows (call.Arrive p f)) ≡ true → delivered_grows n l d (slice_get (frames_on d (wire_at n.lines l)) k) ≡ true
 bring_grows n l d k i p f there far port grows =
     let far_grows : delivered_grows n l d (Some f) ≡ true =
-    either_grows (imp_at n.imps (far_end d (wire_at n.lines l))) (copy_grows f) (λ s. from_line_grows s (port_of n.lines (far_end d (wire_at n.lines l)) l) f)
+    either_grows (imp_at n.imps (far_end d _)) (copy_grows f) (λ s. from_line_grows s (port_of n.lines (far_end d _) l) f)
     (subst (λ (j : ℕ). grows_at (imp_at n.imps j) (call_grows (call.Arrive (port_of n.lines j l) f)) ≡ true) far (subst (λ (q : ℕ). grows_at (imp_at n.imps i) (call_grows (call.Arrive q f)) ≡ true) port grows))
     in
     ap (delivered_grows n l d) there ∙ far_grows

@@ -21,7 +21,7 @@ head_read false l lines o k alike = alike k
 
 lines_read : (l : ℕ) (ws : List Wire) (i k : ℕ) → slice_get (lines_from l ws i) k ≡ line_from l ws i k
 lines_read l [] i k = refl
-lines_read l (w ∷ ws) i k = head_read (ends_at i w) l (lines_from (l + 1) ws i) (λ p. line_from (l + 1) ws i p) k (λ p. lines_read (l + 1) ws i p)
+lines_read l (w ∷ ws) i k = head_read _ l _ _ k (λ p. lines_read (l + 1) ws i p)
 
 pub line_read : (lines : List Wire) (by_imp : List (List ℕ)) (ports : List EndPorts) (i k : ℕ) → AreJoined lines by_imp ports → i < length by_imp → slice_get (get_or by_imp i []) k ≡ line_from 0 lines i k
 line_read lines by_imp ports i k are within = ap (λ (ls : List ℕ). slice_get ls k) (are.leads i within) ∙ lines_read 0 lines i k
@@ -36,12 +36,12 @@ within_from l [] i k n most = tt
 within_from l (w ∷ ws) i k n most =
     let here : l < n = omega (arith, most) in
     let more : l + 1 + length ws ≤ n = omega (arith, most) in
-    within_by (ends_at i w) (k == 0) l n (line_from (l + 1) ws i (k - 1)) (line_from (l + 1) ws i k) here (within_from (l + 1) ws i (k - 1) n more) (within_from (l + 1) ws i k n more)
+    within_by _ _ l n _ _ here (within_from (l + 1) ws i (k - 1) n more) (within_from (l + 1) ws i k n more)
 
 line_within : (lines : List Wire) (i k : ℕ) (o : Option ℕ) → o ≡ line_from 0 lines i k → IfSome o (λ line. line < length lines)
 line_within lines i k o is =
     let most : 0 + length lines ≤ length lines = omega arith in
-    subst (λ (p : Option ℕ). IfSome p (λ line. line < length lines)) (sym is) (within_from 0 lines i k (length lines) most)
+    subst (λ (p : Option ℕ). IfSome p (λ line. line < length lines)) (sym is) (within_from 0 lines i k _ most)
 
 pub line_there : (all lines : List Wire) (by_imp : List (List ℕ)) (ports : List EndPorts) (i k : ℕ) (ls : List ℕ) (o : Option ℕ) → all ≡ lines → AreJoined lines by_imp ports → i < length by_imp → ls ≡ get_or by_imp i ls → o ≡ slice_get ls k
     → IfSome o (λ line. line < length all)
@@ -120,7 +120,7 @@ joined_kept lines by_imp ports l v are same =
       count = are.count;
       leads = λ i within. are.leads i within ∙ sym (lines_kept 0 lines l i v same);
       places = are.places ∙ sym long;
-      ends = are.ends ∙ (sym (rest_kept 0 lines lines l v same) ∙ sym (all_kept 0 lines (set lines l v) l v same));
+      ends = are.ends ∙ (sym (rest_kept 0 lines lines l v same) ∙ sym (all_kept 0 lines _ l v same));
     }
 
 -- ---- the calls

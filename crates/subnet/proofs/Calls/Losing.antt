@@ -13,7 +13,7 @@ not_followed frames f full =
 pub forward_full : (i : ℕ) (w : Wire) → (w.a == i) ≡ true → 256 ≤ length w.forward → LosesAll i w
 forward_full i w from full = λ f.
     ap (λ (b : Bool). if b then record w { forward = followed_by w.forward f } else record w { back = followed_by w.back f }) from
-    ∙ ap (λ (frames : List Frame). record w { forward = frames }) (not_followed w.forward f full)
+    ∙ ap (λ (frames : List Frame). record w { forward = frames }) (not_followed _ f full)
 
 pub back_full : (i : ℕ) (w : Wire) → (w.a == i) ≡ false → 256 ≤ length w.back → LosesAll i w
 back_full i w from full = λ f.

@@ -17,7 +17,7 @@ live_from : (i k : ℕ) (sites : List (Option ℕ)) (ports : ℕ → ℕ) → Is
 live_from i k [] ports = tt
 live_from i zero (site ∷ sites) ports =
     let same : i + 0 ≡ i = omega arith in
-    subst (λ (n : ℕ). IsLive n (opened_imp i site (ports i))) (sym same) (live_one i site (ports i))
+    subst (λ (n : ℕ). IsLive n (opened_imp i site (ports i))) (sym same) (live_one i site _)
 live_from i (suc k) (site ∷ sites) ports =
     let same : i + suc k ≡ i + 1 + k = omega arith in
     subst (λ (n : ℕ). IsLive n (get_or (opened_from (i + 1) sites ports) k None)) (sym same) (live_from (i + 1) k sites ports)
@@ -53,4 +53,4 @@ lines_opened lines [] is = ap length is
 lines_opened lines (e ∷ ends) is = ap length is ∙ ap suc (lines_opened (map empty_wire ends) ends refl)
 
 pub site_read : (sites : List (Option ℕ)) (k : ℕ) → k < length sites → get_or sites 0 None ≡ None → length sites ≤ most_imps + 1 → All (λ site. IfSome site (λ count. count ≤ 4)) sites → IfSome (get_or sites k None) (λ count. (1 ≤ k) × (k ≤ most_imps) × (count ≤ 4))
-site_read sites k within none most few = site_fits sites k (get_or sites k None) (get_or_default sites k None (get_or sites k None) within) within none most few
+site_read sites k within none most few = site_fits sites k _ (get_or_default sites k None (get_or sites k None) within) within none most few

@@ -1,13 +1,13 @@
 -- Only an offer makes a message outstanding at an IMP: so after any other call the numbers of outstanding messages are as low as before.
-use Rattle.subnet.proofs.Common.{cases_Bool, same_flow, Flow, Answer, HostMessage, same_flow-true, release_in, Release, PacketFields, flow_of, Frame, Message, Told, next_number, Way, Nowhere, Here, Away, way_of, from_host, outstanding, Sender, Receiver, sender, receiver, answers_of, begun_with, told_with, ended_with, noted_with, fated_with, queued_with, AllUnmoved, Moved, ask, give_up, message_returned, all_returned, stopped, host_down, is_from_here, to_host}
-use Rattle.std.proofs.Common.{◌≡◌, ℕ, ◌≤◌, Bool, true, false, List, [], ◌∷◌, ◌==◌, Some, refl, ap, sym, subst, ◌∙◌, inl, inr}
+use Rattle.subnet.proofs.Common.{cases_Bool, same_flow, Flow, Answer, HostMessage, same_flow-true, release_in, Release, PacketFields, Frame, Message, Told, next_number, Way, Nowhere, Here, Away, from_host, outstanding, Sender, Receiver, sender, begun_with, ended_with, AllUnmoved, Moved, ask, give_up, message_returned, all_returned, stopped, host_down, to_host}
+use Rattle.std.proofs.Common.{◌≡◌, ℕ, ◌≤◌, Bool, true, false, List, [], ◌∷◌, Some, refl, ap, sym, subst, ◌∙◌, inl, inr}
 use Rattle.std.specs.FinMap as finite
 use Rattle.interface.specs.declared.crossing.Answer.TheVariants as answer
 use Rattle.link_table.specs.declared.destination.Fate.TheVariants as fate
 use Rattle.link_table.specs.declared.source.Release.TheVariants as release
 use Rattle.imp_node.specs.State.{State, host_at, is_up}
-use Rattle.imp_node.specs.Arrival.{Arrival, Passing, Old, Undeliverable, Replying, Piece, NoSlot, Whole, Unmarked, Answering, arrival, from_line}
-use Rattle.imp_node.specs.Moves.{OfferMoves, AnswerMoves, ArrivalMoves, sender_told, source_down, without_first}
+use Rattle.imp_node.specs.Arrival.{Arrival, Passing, Old, Undeliverable, Replying, Piece, NoSlot, Whole, Unmarked, Answering, from_line}
+use Rattle.imp_node.specs.Moves.{OfferMoves, AnswerMoves, ArrivalMoves, sender_told, source_down}
 use Rattle.imp_node.proofs.lemmas.{answer_taken, ask_unmoved, from_host_moves, from_line_moves, give_up_moves, message_taken, nothing_taken, returned_moves, stopped_becomes}
 use Rattle.subnet.specs.Inside.Highest.{OutstandingUpTo}
 
@@ -45,43 +45,43 @@ told_low h false e k x low = low
 
 pub give_up_low : (h : ℕ) (s : State) (f : Flow) → OutstandingUpTo h s → OutstandingUpTo h (give_up s f).state
 give_up_low h s f low =
-    moved_low h s (give_up s f).state f (ended_with answer.Incomplete (sender s f)) (receiver s f) (give_up_moves s f) (ended_low h answer.Incomplete (sender s f)) low
+    moved_low h s _ f _ _ (give_up_moves s f) (ended_low h answer.Incomplete (sender s f)) low
 
 pub ask_low : (h : ℕ) (s : State) (f : Flow) → OutstandingUpTo h s → OutstandingUpTo h (ask s f).state
-ask_low h s f low = unmoved_low h s (ask s f).state (ask_unmoved s f) low
+ask_low h s f low = unmoved_low h s _ (ask_unmoved s f) low
 
 offered_low : (h : ℕ) (way : Way) (m : HostMessage) (s t : State) → OfferMoves way m s t → next_number s m.flow ≤ h → OutstandingUpTo h s → OutstandingUpTo h t
-offered_low h Nowhere m s t moved next low = moved_low h s t m.flow (told_with answer.Dead (sender s m.flow)) (receiver s m.flow) moved (low m.flow) low
+offered_low h Nowhere m s t moved next low = moved_low h s t m.flow _ _ moved (low m.flow) low
 offered_low h Here m s t moved next low =
     let k : ℕ = next_number s m.flow in
-    moved_low h s t m.flow (begun_with k (sender s m.flow)) (queued_with (record { flow = m.flow; number = k; text = m.text }) (noted_with k fate.Waits (receiver s m.flow))) moved (begun_low h k (sender s m.flow) next) low
+    moved_low h s t m.flow _ _ moved (begun_low h k (sender s m.flow) next) low
 offered_low h Away m s t moved next low =
     let k : ℕ = next_number s m.flow in
-    moved_low h s t m.flow (begun_with k (sender s m.flow)) (receiver s m.flow) moved (begun_low h k (sender s m.flow) next) low
+    moved_low h s t m.flow _ _ moved (begun_low h k (sender s m.flow) next) low
 
 pub from_host_low : (h : ℕ) (s : State) (m : HostMessage) → next_number s m.flow ≤ h → OutstandingUpTo h s → OutstandingUpTo h (from_host s m).state
-from_host_low h s m next low = offered_low h (way_of s m.flow) m s (from_host s m).state (from_host_moves s m) next low
+from_host_low h s m next low = offered_low h _ m s _ (from_host_moves s m) next low
 
 answered_low : (h : ℕ) (e : Release) (k : Answer) (f : Flow) (s t : State) → AnswerMoves e k f s t → OutstandingUpTo h s → OutstandingUpTo h t
-answered_low h release.Freed k f s t moved low = moved_low h s t f (ended_with k (sender s f)) (receiver s f) moved (ended_low h k (sender s f)) low
+answered_low h release.Freed k f s t moved low = moved_low h s t f _ _ moved (ended_low h k (sender s f)) low
 answered_low h release.Stale k f s t still low = unmoved_low h s t still low
 
 arrived_low : (h : ℕ) (a : Arrival) (p : PacketFields) (s t : State) → ArrivalMoves a p s t → OutstandingUpTo h s → OutstandingUpTo h t
 arrived_low h Passing p s t still low = unmoved_low h s t still low
 arrived_low h Old p s t still low = unmoved_low h s t still low
-arrived_low h (Undeliverable new told) p s t moved low = moved_low h s t (flow_of p) (sender s (flow_of p)) (noted_with p.number new (receiver s (flow_of p))) moved (low (flow_of p)) low
+arrived_low h (Undeliverable new told) p s t moved low = moved_low h s t _ _ _ moved (low _) low
 arrived_low h (Replying told) p s t still low = unmoved_low h s t still low
 arrived_low h Piece p s t still low = unmoved_low h s t still low
 arrived_low h NoSlot p s t still low = unmoved_low h s t still low
 arrived_low h (Whole text) p s t moved low =
-    moved_low h s t (flow_of p) (sender s (flow_of p)) (queued_with (record { flow = flow_of p; number = p.number; text = text }) (noted_with p.number fate.Waits (receiver s (flow_of p)))) moved (low (flow_of p)) low
-arrived_low h Unmarked p s t moved low = moved_low h s t (flow_of p) (sender s (flow_of p)) (noted_with p.number fate.Never (receiver s (flow_of p))) moved (low (flow_of p)) low
-arrived_low h (Answering kind) p s t moves low = answered_low h (release_in p.number (finite.get s.sources (flow_of p))) kind (flow_of p) s t moves low
+    moved_low h s t _ _ _ moved (low _) low
+arrived_low h Unmarked p s t moved low = moved_low h s t _ _ _ moved (low _) low
+arrived_low h (Answering kind) p s t moves low = answered_low h _ kind _ s t moves low
 
 pub from_line_low : (h : ℕ) (s : State) (k : ℕ) (f : Frame) → OutstandingUpTo h s → OutstandingUpTo h (from_line s k f).state
 from_line_low h s k f low = elim (from_line_moves s k f) [
-  | inl still ↦ unmoved_low h s (from_line s k f).state still low
-  | inr moves ↦ arrived_low h (arrival s moves.0) moves.0 s (from_line s k f).state moves.2 low
+  | inl still ↦ unmoved_low h s _ still low
+  | inr moves ↦ arrived_low h _ _ s _ moves.2 low
 ]
 
 -- a host takes something: it is up, and what waits for it is for it
@@ -89,12 +89,12 @@ pub to_host_low : (h : ℕ) (s : State) (k : ℕ) (ts : List Told) (ms : List Me
     → ((t : Told) (others : List Told) → ts ≡ t ∷ others → t.flow.source.host ≡ k) → ((m : Message) (others : List Message) → ms ≡ m ∷ others → m.flow.destination.host ≡ k)
     → OutstandingUpTo h s → OutstandingUpTo h (to_host s k).state
 to_host_low h s k (t ∷ others) ms up answers queue told waits low =
-    moved_low h s (to_host s k).state t.flow (record (sender s t.flow) { answers = answers_of t.flow others }) (receiver s t.flow) (answer_taken s k t others up answers (told t others refl)) (low t.flow) low
+    moved_low h s _ t.flow _ _ (answer_taken s k t others up answers (told t others refl)) (low t.flow) low
 to_host_low h s k [] (m ∷ others) up answers queue told waits low =
     let e : Release = release_in m.number (finite.get s.sources m.flow) in
-    moved_low h s (to_host s k).state m.flow (sender_told (is_from_here s m) e answer.Rfnm (sender s m.flow)) (without_first others m.flow (fated_with m.number fate.Taken (receiver s m.flow)))
-    (message_taken s k m others up answers queue (waits m others refl)) (told_low h (is_from_here s m) e answer.Rfnm (sender s m.flow) (low m.flow)) low
-to_host_low h s k [] [] up answers queue told waits low = unmoved_low h s (to_host s k).state (nothing_taken s k answers queue) low
+    moved_low h s _ m.flow _ _
+    (message_taken s k m others up answers queue (waits m others refl)) (told_low h _ e _ _ (low m.flow)) low
+to_host_low h s k [] [] up answers queue told waits low = unmoved_low h s _ (nothing_taken s k answers queue) low
 
 -- ---- a host goes down
 
@@ -103,8 +103,8 @@ returned_low h [] s low = low
 returned_low h (m ∷ ms) s low =
     let e : Release = release_in m.number (finite.get s.sources m.flow) in
     returned_low h ms (message_returned m s)
-    (moved_low h s (message_returned m s) m.flow (sender_told (is_from_here s m) e answer.Dead (sender s m.flow)) (fated_with m.number fate.Dead (receiver s m.flow)) (returned_moves m s)
-    (told_low h (is_from_here s m) e answer.Dead (sender s m.flow) (low m.flow)) low)
+    (moved_low h s _ m.flow _ _ (returned_moves m s)
+    (told_low h _ e _ _ (low m.flow)) low)
 
 pub down_same : (b : Bool) (x : Sender) → (source_down b x).outstanding ≡ x.outstanding
 down_same true x = refl
@@ -113,4 +113,4 @@ down_same false x = refl
 pub host_down_low : (h : ℕ) (s : State) (k : ℕ) → OutstandingUpTo h s → OutstandingUpTo h (host_down s k).state
 host_down_low h s k low =
     returned_low h (host_at s k).queue (stopped s k)
-    (same_low h s (stopped s k) (λ f. ap (λ (x : Sender). x.outstanding) (stopped_becomes s k f).sender ∙ down_same (f.source.host == k) (sender s f)) low)
+    (same_low h s (stopped s k) (λ f. ap (λ (x : Sender). x.outstanding) (stopped_becomes s k f).sender ∙ down_same _ _) low)

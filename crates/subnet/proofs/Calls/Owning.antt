@@ -1,12 +1,12 @@
 -- No call changes the number of an IMP.
-use Rattle.subnet.proofs.Common.{◌≡◌, ℕ, Bool, true, false, List, [], ◌∷◌, Option, Some, None, Result, Ok, Err, refl, ◌∙◌, Flow, Answer, PacketFields, PacketKind, answer_to, ChannelFault, Frame, Received, HostMessage, Release, Message, Told, State, ImpTurn, number, host_at, with_host, port_at, answered_by, fated, Way, Nowhere, Here, Away, way_of, offered, asked_by, outstanding, message_returned, all_returned, stopped, is_from_here, replied, reply_has_room, taken_by, to_host, ImpCall, call_turn}
+use Rattle.subnet.proofs.Common.{◌≡◌, ℕ, Bool, true, false, List, [], ◌∷◌, Option, Some, None, Result, Ok, Err, refl, ◌∙◌, Flow, Answer, PacketFields, PacketKind, ChannelFault, Frame, Received, HostMessage, Release, Message, Told, State, ImpTurn, number, host_at, answered_by, fated, Way, Nowhere, Here, Away, offered, asked_by, message_returned, all_returned, stopped, replied, taken_by, to_host, ImpCall, call_turn}
 use Rattle.std.specs.Prelude.{if◌then◌else◌}
 use Rattle.interface.specs.declared.crossing.Answer.TheVariants as answer
 use Rattle.packetiser.specs.declared.packet.PacketKind.TheVariants as kind
 use Rattle.imp_channel.specs.declared.line.Received.TheVariants as received
 use Rattle.link_table.specs.declared.source.Release.TheVariants as release
 use Rattle.link_table.specs.declared.destination.Fate.TheVariants as fate
-use Rattle.imp_node.specs.Arrival.{Arrival, Passing, Old, Undeliverable, Replying, Piece, NoSlot, Whole, Unmarked, Answering, arrival, arrived, arrival_has_room, frame_taken, taken_frame, from_line}
+use Rattle.imp_node.specs.Arrival.{Arrival, Passing, Old, Undeliverable, Replying, Piece, NoSlot, Whole, Unmarked, Answering, arrived, taken_frame, from_line}
 use Rattle.subnet.specs.declared.imp_call.ImpCall.TheVariants as call
 
 answered_own : (r : Release) (kind : Answer) (f : Flow) (n : ℕ) (s : State) → number (answered_by r kind f n s) ≡ number s
@@ -18,7 +18,7 @@ either_own true s t u e h = e
 either_own false s t u e h = h
 
 replied_own : (kind : Answer) (packet : PacketKind) (m : Message) (s : State) → number (replied kind packet m s) ≡ number s
-replied_own kind packet m s = either_own (is_from_here s m) s _ _ (answered_own _ kind m.flow m.number s) refl
+replied_own kind packet m s = either_own _ s _ _ (answered_own _ kind m.flow _ s) refl
 
 arrived_own : (a : Arrival) (p : PacketFields) (s : State) → number (arrived a p s) ≡ number s
 arrived_own Passing p s = refl
@@ -29,21 +29,21 @@ arrived_own Piece p s = refl
 arrived_own NoSlot p s = refl
 arrived_own (Whole text) p s = refl
 arrived_own Unmarked p s = refl
-arrived_own (Answering kind) p s = answered_own _ kind _ p.number s
+arrived_own (Answering kind) p s = answered_own _ kind _ _ s
 
 turn_own : (b : Bool) (s : State) (t u : ImpTurn) → number t.state ≡ number s → number u.state ≡ number s → number (if b then t else u).state ≡ number s
 turn_own true s t u e h = e
 turn_own false s t u e h = h
 
 taken_own : (r : Result Received ChannelFault) (k : ℕ) (f : Frame) (s : State) → number (taken_frame r k f s).state ≡ number s
-taken_own (Ok (received.Fresh p)) k f s = turn_own (arrival_has_room (arrival s p) s p) s _ _ (arrived_own (arrival s p) p (frame_taken k f s)) refl
+taken_own (Ok (received.Fresh p)) k f s = turn_own _ s _ _ (arrived_own _ p _) refl
 taken_own (Ok received.Repeat) k f s = refl
 taken_own (Ok received.AckOnly) k f s = refl
 taken_own (Ok (received.Routes distances)) k f s = refl
 taken_own (Err fault) k f s = refl
 
 from_line_own : (s : State) (k : ℕ) (f : Frame) → number (from_line s k f).state ≡ number s
-from_line_own s k f = turn_own (port_at s.ports k).up s _ _ (taken_own (answer_to (port_at s.ports k).line f) k f s) refl
+from_line_own s k f = turn_own _ s _ _ (taken_own _ k f s) refl
 
 offered_own : (way : Way) (m : HostMessage) (s : State) → number (offered way m s) ≡ number s
 offered_own Nowhere m s = refl
@@ -52,16 +52,16 @@ offered_own Away m s = refl
 
 taken_by_own : (h : ℕ) (answers : List Told) (queue : List Message) (s : State) → number (taken_by h answers queue s) ≡ number s
 taken_by_own h (told ∷ others) queue s = refl
-taken_by_own h [] (m ∷ others) s = replied_own answer.Rfnm kind.Rfnm m (fated m.flow m.number fate.Taken (with_host s h (record (host_at s h) { queue = others })))
+taken_by_own h [] (m ∷ others) s = replied_own _ kind.Rfnm m _
 taken_by_own h [] [] s = refl
 
 pub to_host_own : (s : State) (h : ℕ) → number (to_host s h).state ≡ number s
-to_host_own s h = taken_by_own h (host_at s h).answers (host_at s h).queue s
+to_host_own s h = taken_by_own h _ _ s
 
 returned_own : (m : Message) (s : State) → number (message_returned m s) ≡ number s
 returned_own m s =
     let t : State = fated m.flow m.number fate.Dead s in
-    either_own (reply_has_room t m) s (replied answer.Dead kind.Dead m t) t (replied_own answer.Dead kind.Dead m t) refl
+    either_own _ s (replied answer.Dead kind.Dead m t) t (replied_own _ kind.Dead m t) refl
 
 all_returned_own : (ms : List Message) (s : State) → number (all_returned ms s) ≡ number s
 all_returned_own [] s = refl
@@ -72,8 +72,8 @@ asked_own None f s = refl
 asked_own (Some n) f s = refl
 
 pub call_own : (c : ImpCall) (s : State) → number (call_turn c s).state ≡ number s
-call_own (call.Offer m) s = offered_own (way_of s m.flow) m s
+call_own (call.Offer m) s = offered_own _ m s
 call_own (call.Arrive k f) s = from_line_own s k f
-call_own (call.Ask f) s = asked_own (outstanding s f) f s
+call_own (call.Ask f) s = asked_own _ f s
 call_own (call.HostDown h) s = all_returned_own (host_at s h).queue (stopped s h)
 call_own c s = refl

@@ -22,7 +22,7 @@ from_host_lasts : (o : Option State) (m : HostMessage) → Lasts (at_up o (λ s.
 from_host_lasts None m = (refl, refl)
 from_host_lasts (Some s) m =
     first_lasts (not (is_own s m.flow.source)) fault.NoSuch _ (refl, refl)
-    (first_lasts (not (is_up s m.flow.source.host)) fault.IsDown _ (refl, refl)
+    (first_lasts (not (is_up s _)) fault.IsDown _ (refl, refl)
     (first_lasts (not (is_idle s m.flow)) fault.Blocked _ (refl, refl)
     (first_lasts (not (way_has_room (way_of s m.flow) s m)) fault.NoRoom None (refl, refl) tt)))
 

@@ -31,7 +31,7 @@ pub channel_next : (e : End) (k i c : ℕ) (lines : List Wire) → c < length e.
 channel_next e k i c lines within =
     let first : List Frame = frames_of e c (channel_at e c).bit (channel_at e c).packet in
     let rest : List Frame = frames_from e (c + 1) (drop (c + 1) e.sending) in
-    ap (λ (chs : List Channel). put_all lines i (map (on_port k) (frames_from e c chs))) (drop_more e.sending c opening_channel within)
+    ap (λ (chs : List Channel). put_all lines i (map (on_port k) (frames_from e c chs))) (drop_more _ c opening_channel within)
     ∙ ap (put_all lines i) (map-append (on_port k) first rest)
     ∙ put_both (map (on_port k) first) (map (on_port k) rest) lines i
 
@@ -46,7 +46,7 @@ some_busy at port up some = resent_some at port up some
 pub port_next : (s : State) (k i : ℕ) (lines : List Wire) → k < length s.ports
     → put_all lines i (resent_from k (drop k s.ports)) ≡ put_all (put_all lines i (resent_by k (port_at s.ports k))) i (resent_from (k + 1) (drop (k + 1) s.ports))
 port_next s k i lines within =
-    ap (λ (ports : List Port). put_all lines i (resent_from k ports)) (drop_more s.ports k down_port within)
+    ap (λ (ports : List Port). put_all lines i (resent_from k ports)) (drop_more _ k down_port within)
     ∙ put_both (resent_by k (port_at s.ports k)) (resent_from (k + 1) (drop (k + 1) s.ports)) lines i
 
 pub all_resent : (k : ℕ) (ports : List Port) → resent_from k ports ≡ all_from resent_by k ports
@@ -54,13 +54,13 @@ all_resent k [] = refl
 all_resent k (port ∷ ports) = ap (λ (outs : List Outgoing). resent_by k port ++ outs) (all_resent (k + 1) ports)
 
 pub some_resent : (s : State) (k : ℕ) → k < length s.ports → 0 < length (resent_by k (port_at s.ports k)) → 0 < length (resent_from 0 s.ports)
-some_resent s k within some = some_of_all resent_by s.ports (resent_from 0 s.ports) k (all_resent 0 s.ports) within some
+some_resent s k within some = some_of_all resent_by _ _ k (all_resent 0 s.ports) within some
 
 -- ---- the subnet
 
 -- where no packet waits, it does nothing else
 pub resends_alone : (s : State) → length s.store ≡ 0 → resend s ≡ record { state = s; frames = resent_from 0 s.ports }
-resends_alone s none = pump_with (resent_from 0 s.ports) s none
+resends_alone s none = pump_with _ s none
 
 pub resent_alone : {T E : Type 0} (r : Result T E) (n new : Net) (i : ℕ) → OnlyResends (imp_at n.imps i) → OnOk r (new ≡ record n { lines = put_all n.lines i (resent (imp_at n.imps i)) }) → OnOk r (new ≡ at_imp (imp_at n.imps i) i (call_turn call.Resend) n)
 resent_alone r n new i only is = put_alone resend sends_again r n new i only is

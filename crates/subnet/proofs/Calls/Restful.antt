@@ -1,10 +1,10 @@
--- A subnet that rests: no quiet round and no taking changes anything.
-use Rattle.subnet.proofs.Common.{nat_tests, Host, same_host, is_host, CarrierFault, same_host-true, taking_has_room, to_host_refusal, Net, imp_at, SubnetRound, SubnetTake}
+-- A subnet that rests: no quiet round changes anything, and no taking of any host but some.
+use Rattle.subnet.proofs.Common.{nat_tests, Host, same_host, is_host, CarrierFault, same_host-true, to_host_refusal, Net, imp_at, SubnetRound, SubnetTake}
 use Rattle.std.proofs.Common.{◌≡◌, ℕ, ◌+◌, ◌<◌, suc, Bool, true, false, not, ◌||◌, ◌==◌, List, [], ◌∷◌, length, slice_get, Option, Some, None, Ok, Err, if◌then◌else◌, refl, ap, sym, subst, ◌∙◌, inl, inr, arith}
 use Rattle.std.proofs.lemmas.Bool.{eqb-true}
-use Rattle.interface.specs.Rest.{Rests, TakesNothing}
+use Rattle.interface.specs.Rest.{RestsBeside, TakesNothing}
 use Rattle.interface.specs.declared.carrier.CarrierFault.TheVariants as fault
-use Rattle.imp_node.specs.State.{State, host_at, is_there, is_up}
+use Rattle.imp_node.specs.State.{State}
 use Rattle.subnet.specs.Calls.{Kept, Fails, refusal_of, take_grows}
 use Rattle.subnet.specs.Events.{at_up, first_of, take_refusal, taken_by_host, take_in, quiet_round}
 use Rattle.subnet.specs.Inside.Resting.{IsRefused, TakesNone, TakesNoneAt, is_away}
@@ -19,14 +19,14 @@ host_refused true false others away = record { fault = fault.IsDown; is = refl; 
 
 at_refused : (h : ℕ) (o : Option State) → is_away o h ≡ true → IsRefused (at_up o (λ s. to_host_refusal s h))
 at_refused h None away = record { fault = fault.IsDown; is = refl; no_halt = refl; no_memory = refl }
-at_refused h (Some s) away = host_refused (is_there s h) (is_up s h) (if taking_has_room (host_at s h).answers (host_at s h).queue s then None else Some fault.NoRoom) away
+at_refused h (Some s) away = host_refused _ _ _ away
 
 first_refused : (test : Bool) (others : Option CarrierFault) → IsRefused others → IsRefused (first_of test fault.NoSuch others)
 first_refused true others r = record { fault = fault.NoSuch; is = refl; no_halt = refl; no_memory = refl }
 first_refused false others r = r
 
 pub away_takes : (n : Net) (h : Host) → is_away (imp_at n.imps h.imp) h.host ≡ true → TakesNone n h
-away_takes n h away = inl (first_refused (not (is_host n.hosts h)) (at_up (imp_at n.imps h.imp) (λ s. to_host_refusal s h.host)) (at_refused h.host (imp_at n.imps h.imp) away))
+away_takes n h away = inl (first_refused _ _ (at_refused h.host _ away))
 
 -- ---- a host for which nothing waits
 
@@ -36,12 +36,13 @@ empty_takes n h accepted nothing unchanged = inr (record { accepted = accepted; 
 -- ---- all hosts
 
 -- the host at one place more
-one_by : (b : Bool) (n : Net) (k i : ℕ) → (i == k) ≡ b → ((j : ℕ) → j < k → TakesNoneAt n j) → TakesNoneAt n k → i < k + 1 → TakesNoneAt n i
-one_by true n k i is earlier here below = let same : i ≡ k = eqb-true i k is in subst (TakesNoneAt n) (sym same) here
-one_by false n k i is earlier here below = earlier i (grind (arith, nat_tests, is, below))
+one_by : (b : Bool) (n : Net) (hosts : List Host) (k i : ℕ) → (i == k) ≡ b → ((j : ℕ) → j < k → TakesNoneAt n hosts j) → TakesNoneAt n hosts k → i < k + 1 → TakesNoneAt n hosts i
+one_by true n hosts k i is earlier here below = let same : i ≡ k = eqb-true i k is in subst (TakesNoneAt n hosts) (sym same) here
+one_by false n hosts k i is earlier here below = earlier i (grind (arith, nat_tests, is, below))
 
-pub one_more : (n : Net) (k : ℕ) (b : Bool) → b ≡ true → ((j : ℕ) → j < k → TakesNoneAt n j) → (b ≡ true → TakesNoneAt n k) → (i : ℕ) → i < k + 1 → TakesNoneAt n i
-one_more n k b said earlier here = λ i below. one_by (i == k) n k i refl earlier (here said) below
+pub one_more : (n : Net) (hosts : List Host) (k : ℕ) (b : Bool) → b ≡ true → ((j : ℕ) → j < k → TakesNoneAt n hosts j) → (b ≡ true → TakesNoneAt n hosts k) → (i : ℕ) → i < k + 1
+    → TakesNoneAt n hosts i
+one_more n hosts k b said earlier here = λ i below. one_by (i == k) n hosts k i refl earlier (here said) below
 
 -- where a host is among these
 record Place (hosts : List Host) (h : Host) : Type 0 where
@@ -76,11 +77,12 @@ no_such k h goes away =
       no_memory = refl;
     }))
 
-pub subnet_rests : (k : Kept) → k.stopped ≡ false → quiet_round k.net ≡ k.net → ((i : ℕ) → i < length k.net.hosts → TakesNoneAt k.net i) → Rests SubnetRound SubnetTake k
-subnet_rests k goes rests none = record {
+pub subnet_rests : (k : Kept) (hosts : List Host) → k.stopped ≡ false → quiet_round k.net ≡ k.net → ((i : ℕ) → i < length k.net.hosts → TakesNoneAt k.net hosts i)
+    → RestsBeside SubnetRound SubnetTake hosts k
+subnet_rests k hosts goes rests none = record {
   round = rested_round k goes rests;
-  takings = λ h. by h (is_host k.net.hosts h) refl;
+  takings = λ h other. by h other (is_host k.net.hosts h) refl;
 } where
-  by : (h : Host) (b : Bool) → is_host k.net.hosts h ≡ b → TakesNothing SubnetTake k h
-  by h true there = let p : Place k.net.hosts h = place_of k.net.hosts h there in takes_none k h goes (none p.place p.within h p.got)
-  by h false away = no_such k h goes away
+  by : (h : Host) → is_host hosts h ≡ false → (b : Bool) → is_host k.net.hosts h ≡ b → TakesNothing SubnetTake k h
+  by h other true there = let p : Place k.net.hosts h = place_of _ h there in takes_none k h goes (none p.place p.within h p.got other)
+  by h other false away = no_such k h goes away

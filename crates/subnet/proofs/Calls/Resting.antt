@@ -1,5 +1,5 @@
 -- Calls that would change nothing, and need not be made.
-use Rattle.subnet.proofs.Common.{◌≡◌, ℕ, Bool, true, false, ◌&&◌, List, set, Option, Some, None, Result, Ok, Err, refl, ap, sym, ◌∙◌, set-get_or, is_memory, Host, CarrierFault, Inbound, State, ImpTurn, ignored, route, resend, to_host, Net, imp_at, with_turn, imp_is_up, at_imp, refreshed, logging, crossings_of, taken_by_host, take_in, quiet_round}
+use Rattle.subnet.proofs.Common.{◌≡◌, ℕ, Bool, true, false, ◌&&◌, List, set, Option, Some, None, Result, Ok, Err, refl, ap, sym, ◌∙◌, set-get_or, Host, CarrierFault, Inbound, State, ImpTurn, ignored, route, resend, to_host, Net, imp_at, with_turn, imp_is_up, at_imp, refreshed, logging, crossings_of, taken_by_host, take_in, quiet_round}
 use Rattle.std.specs.Prelude.{not}
 use Rattle.subnet.specs.Inside.Calling.{CallEnds, Fails}
 use Rattle.subnet.specs.Inside.Remembering.{is_refused}
@@ -24,7 +24,7 @@ down_refreshed n i None at down = ap (λ (o : Option State). (let told : Net = a
 down_refreshed n i (Some s) at down = cc
 
 pub not_refreshed : (n : Net) (i : ℕ) → imp_is_up (imp_at n.imps i) ≡ false → n ≡ refreshed n i
-not_refreshed n i down = sym (down_refreshed n i (imp_at n.imps i) refl down)
+not_refreshed n i down = sym (down_refreshed n i _ refl down)
 
 -- a call that is refused changes nothing, and so keeps what rests at rest
 refused_fails : (refusal : Option CarrierFault) (grows : Bool) (e : CarrierFault) (old n : Net) (b : Bool) → Fails refusal grows b e old n → not b ≡ true → n ≡ old
@@ -33,7 +33,7 @@ refused_fails refusal grows e old n false fails is = fails.1
 
 refused_same : {T : Type 0} (refusal : Option CarrierFault) (grows : Bool) (Gives : T → Type 0) (old n : Net) (r : Result T CarrierFault) → CallEnds refusal grows Gives old n r → is_refused r ≡ true → n ≡ old
 refused_same refusal grows Gives old n (Ok x) ends is = absurd (cc)
-refused_same refusal grows Gives old n (Err e) ends is = refused_fails refusal grows e old n (is_memory e) ends is
+refused_same refusal grows Gives old n (Err e) ends is = refused_fails refusal grows e old n _ ends is
 
 same_rests : (old n : Net) → n ≡ old → quiet_round old ≡ old → quiet_round n ≡ n
 same_rests old n same rests = ap quiet_round same ∙ rests ∙ sym same

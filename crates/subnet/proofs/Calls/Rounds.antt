@@ -29,11 +29,11 @@ turn_keeps P keeps l d n is = carried_keeps P keeps (length (frames_on d (wire_a
 all_turns_keep : (P : Net → Type 0) → Keeps P → (lines : List ℕ) (n : Net) → P n → P (all_turns lines n)
 all_turns_keep P keeps [] n is = is
 all_turns_keep P keeps (l ∷ lines) n is =
-    all_turns_keep P keeps lines (turn_of l way.Back (turn_of l way.Forward n)) (turn_keeps P keeps l way.Back (turn_of l way.Forward n) (turn_keeps P keeps l way.Forward n is))
+    all_turns_keep P keeps lines (turn_of l way.Back (turn_of l way.Forward n)) (turn_keeps P keeps l way.Back _ (turn_keeps P keeps l way.Forward n is))
 
 pub round_keeps : (P : Net → Type 0) → Keeps P → (n : Net) → P n → P (quiet_round n)
 round_keeps P keeps n is =
-    all_turns_keep P keeps (range_with_len 0 (length n.lines)) (all_refreshed (range_with_len 0 (length n.imps)) n)
+    all_turns_keep P keeps (range_with_len 0 (length n.lines)) _
     (all_refreshed_keeps P keeps (range_with_len 0 (length n.imps)) n is)
 
 pub quiet_round_sound : (n : Net) → IsSound n → IsSound (quiet_round n)

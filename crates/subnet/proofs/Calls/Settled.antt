@@ -1,6 +1,7 @@
 -- A quiet round of a settled network changes nothing: the frames that it puts on lines repeat what was heard, or go to an end that is down, and
 -- are gone at its end.
-use Rattle.subnet.proofs.Common.{AllByRecursion, range_with_len, list_all, sum_by-cons, nat_tests, Direction, Frame, vector_of, Outgoing, Port, State, ImpTurn, port_at, from_line, ignored, packets_in, pump, on_port, told_by, told_from, route, resent_by, resent_from, resend, Net, Wire, no_wire, imp_at, wire_at, ends_at, port_of, line_places, line_from, followed_by, with_frame, put_on, put_one, put_all, with_turn, frames_on, far_end, without_at, dropping}
+use Rattle.subnet.proofs.Common.{AllByRecursion, range_with_len, list_all, sum_by-cons, nat_tests, Direction, Frame, vector_of, Outgoing, Port, State, ImpTurn, port_at, from_line, ignored, packets_in, pump, on_port, told_by, told_from, route, resent_by, resent_from, resend, Net, Wire, no_wire, imp_at, wire_at, ends_at, port_of, line_from, followed_by, with_frame, put_on, put_one, put_all, with_turn, frames_on, far_end, without_at, dropping}
+use Rattle.subnet.specs.Net.{line_places}
 use Rattle.std.specs.Prelude.{if◌then◌else◌, IfSome}
 use Rattle.std.proofs.Common.{◌≡◌, ℕ, ◌+◌, ◌-◌, ◌<◌, ◌≤◌, zero, suc, Bool, true, false, List, [], ◌∷◌, ◌++◌, length, map, take, set, slice_get, nat_lt, ◌==◌, ◌||◌, ◌&&◌, count_by, Option, Some, None, refl, ap, sym, subst, ◌∙◌, arith}
 use Rattle.std.proofs.lemmas.List.{set-get_or, length-map}
@@ -62,8 +63,8 @@ record Alike (lines others : List Wire) : Type 0 where
 
 far_alike : (lines others : List Wire) (l : ℕ) (d : Direction) → Alike lines others → far_end d (wire_at lines l) ≡ far_end d (wire_at others l)
 far_alike lines others l d same =
-    sym (far_emptied d (wire_at lines l)) ∙ (ap (far_end d) (sym (wire_emptied lines l))
-    ∙ (ap (λ (ws : List Wire). far_end d (wire_at ws l)) same.ends ∙ (ap (far_end d) (wire_emptied others l) ∙ far_emptied d (wire_at others l))))
+    sym (far_emptied d _) ∙ (ap (far_end d) (sym (wire_emptied lines l))
+    ∙ (ap (λ (ws : List Wire). far_end d (wire_at ws l)) same.ends ∙ (ap (far_end d) (wire_emptied others l) ∙ far_emptied d _)))
 
 a_alike : (lines others : List Wire) (l : ℕ) → Alike lines others → (wire_at lines l).a ≡ (wire_at others l).a
 a_alike lines others l same =
@@ -98,12 +99,12 @@ line_by : (b first : Bool) (l : ℕ) (w : Wire) (ws : List Wire) (i k m : ℕ) �
 line_by true true l w ws i k m is none later at =
     let same : l ≡ m = cc in
     record { place = 0; is = omega (arith, same); within = omega arith; ends = is; port = sym (eqb-true k 0 none) }
-line_by true false l w ws i k m is none later at = line_later l w ws i k m (k - 1) true is (grind (arith, nat_tests, none)) (later (k - 1) at)
+line_by true false l w ws i k m is none later at = line_later l w ws i k m _ true is (grind (arith, nat_tests, none)) (later _ at)
 line_by false first l w ws i k m is none later at = line_later l w ws i k m k false is (omega arith) (later k at)
 
 line_found : (l : ℕ) (ws : List Wire) (i k m : ℕ) → line_from l ws i k ≡ Some m → LineAt l ws i k m
 line_found l [] i k m found = absurd cc
-line_found l (w ∷ ws) i k m found = line_by (ends_at i w) (k == 0) l w ws i k m refl refl (λ p at. line_found (l + 1) ws i p m at) found
+line_found l (w ∷ ws) i k m found = line_by _ _ l w ws i k m refl refl (λ p at. line_found (l + 1) ws i p m at) found
 
 abbrev way_from : Bool → Direction
 way_from true = way.Forward
@@ -140,13 +141,13 @@ put_harmless : (P : Direction → Frame → Type 0) (b : Bool) (w : Wire) (f : F
 put_harmless P true w f all new way.Forward = followed (nat_lt (length w.forward) line_places) (P way.Forward) w.forward f (all way.Forward) new
 put_harmless P true w f all new way.Back = all way.Back
 put_harmless P false w f all new way.Forward = all way.Forward
-put_harmless P false w f all new way.Back = followed (nat_lt (length w.back) line_places) (P way.Back) w.back f (all way.Back) new
+put_harmless P false w f all new way.Back = followed _ _ w.back f (all way.Back) new
 
 put_still : (n : Net) (lines : List Wire) (i l : ℕ) (f : Frame) → AreStill n lines → Harmless n l (way_from ((wire_at lines l).a == i)) f → AreStill n (set lines l (with_frame i f (wire_at lines l)))
 put_still n lines i l f still new = record {
-  alike = record { ends = emptied_set lines l (with_frame i f (wire_at lines l)) (emptied_with ((wire_at lines l).a == i) f (wire_at lines l)) ∙ still.alike.ends };
+  alike = record { ends = emptied_set lines l (with_frame i f (wire_at lines l)) (emptied_with _ f (wire_at lines l)) ∙ still.alike.ends };
   harmless = λ m d. at_set (λ (h : ℕ) (w : Wire). AllByRecursion (Harmless n h d) (frames_on d w)) lines l m (with_frame i f (wire_at lines l)) no_wire (still.harmless m d)
-      (put_harmless (λ (d : Direction) (f : Frame). Harmless n l d f) ((wire_at lines l).a == i) (wire_at lines l) f (λ d. still.harmless l d) new d);
+      (put_harmless _ _ _ f (λ d. still.harmless l d) new d);
 }
 
 -- ---- frames of a port
@@ -155,12 +156,12 @@ put_still n lines i l f still new = record {
 still_line : (n : Net) (i k l : ℕ) (s : State) → IsSettled n → imp_at n.imps i ≡ Some s → line_from 0 n.lines i k ≡ Some l
     → IsStill (Some s) k (imp_at n.imps (far_end (way_from ((wire_at n.lines l).a == i)) (wire_at n.lines l))) (port_of n.lines (far_end (way_from ((wire_at n.lines l).a == i)) (wire_at n.lines l)) l)
 still_line n i k l s settled is at =
-    let line : LineAt 0 n.lines i k l = line_found 0 n.lines i k l at in
+    let line : LineAt 0 n.lines i k l = line_found 0 _ i k l at in
     let same : l ≡ line.place = omega (arith, line.is) in
     let w : Wire = wire_at n.lines l in
     let d : Direction = way_from (w.a == i) in
     let far : ℕ = far_end d w in
-    let near : near_end d w ≡ i = near_by (w.a == i) w i refl (ap (λ (p : ℕ). ends_at i (wire_at n.lines p)) same ∙ line.ends) in
+    let near : near_end d w ≡ i = near_by _ w i refl (ap (λ (p : ℕ). ends_at i (wire_at n.lines p)) same ∙ line.ends) in
     let port : port_of n.lines (near_end d w) l ≡ k = ap (λ (j : ℕ). port_of n.lines j l) near ∙ (ap (port_of n.lines i) same ∙ line.port) in
     let still : IsStillOn n l d = settled.still l d (omega (arith, line.within, same)) in
     subst (λ (o : Option State). IsStill o k (imp_at n.imps far) (port_of n.lines far l)) (ap (imp_at n.imps) near ∙ is)
@@ -174,7 +175,7 @@ put_frame n lines i k f harmless still = by (line_from 0 lines i k) refl where
   by None at = still
   by (Some l) at =
       put_still n lines i l f still
-      (subst (λ (a : ℕ). Harmless n l (way_from (a == i)) f) (sym (a_alike lines n.lines l still.alike)) (harmless l (sym (line_alike lines n.lines i k still.alike) ∙ at)))
+      (subst (λ (a : ℕ). Harmless n l (way_from (a == i)) f) (sym (a_alike lines _ l still.alike)) (harmless l (sym (line_alike lines n.lines i k still.alike) ∙ at)))
 
 put_frames : (n : Net) (frames : List Frame) (lines : List Wire) (i k : ℕ) → ((l : ℕ) (f : Frame) → line_from 0 n.lines i k ≡ Some l → Harmless n l (way_from ((wire_at n.lines l).a == i)) f) → AreStill n lines
     → AreStill n (put_all lines i (map (on_port k) frames))
@@ -189,7 +190,7 @@ put_ports each n [] lines i k s at ok still = still
 put_ports each n (port ∷ ports) lines i k s at ok still =
     let here : port ≡ port_at s.ports k = at 0 (omega arith) ∙ ap (port_at s.ports) (omega arith) in
     let first : AreStill n (put_all lines i (each k port)) = subst (λ (p : Port). AreStill n (put_all lines i (each k p))) (sym here) (ok lines k still) in
-    subst (λ (ws : List Wire). AreStill n ws) (sym (put_both (each k port) (all_from each (k + 1) ports) lines i))
+    subst (λ (ws : List Wire). AreStill n ws) (sym (put_both (each k port) (all_from each _ ports) lines i))
     (put_ports each n ports (put_all lines i (each k port)) i (k + 1) s (λ j within. at (suc j) (omega (arith, within)) ∙ ap (port_at s.ports) (omega arith)) ok first)
 
 -- ---- what an IMP announces
@@ -213,8 +214,8 @@ put_told n lines i k s settled is still = by (port_at s.ports k).up refl where
 
   told : (l : ℕ) → (port_at s.ports k).up ≡ true → line_from 0 n.lines i k ≡ Some l → Harmless n l (way_from ((wire_at n.lines l).a == i)) frame
   told l up at =
-      let far : ℕ = far_end (way_from ((wire_at n.lines l).a == i)) (wire_at n.lines l) in
-      heard_by s k (port_of n.lines far l) (imp_at n.imps far) up (settled.waits far) (still_line n i k l s settled is at)
+      let far : ℕ = far_end (way_from ((wire_at n.lines l).a == i)) _ in
+      heard_by s k _ _ up (settled.waits far) (still_line n i k l s settled is at)
 
   by : (up : Bool) → (port_at s.ports k).up ≡ up → AreStill n (put_all lines i (if up then on_port k frame ∷ [] else []))
   by true up = put_frame n lines i k frame (λ l at. told l up at) still
@@ -240,7 +241,7 @@ put_resent n lines i k s settled is still = by (length (packets_in port.line.sen
   lost : (l : ℕ) (f : Frame) → port.up ≡ true → 0 < length (packets_in port.line.sending) → line_from 0 n.lines i k ≡ Some l → Harmless n l (way_from ((wire_at n.lines l).a == i)) f
   lost l f up busy at =
       let far : ℕ = far_end (way_from ((wire_at n.lines l).a == i)) (wire_at n.lines l) in
-      lost_by s k (port_of n.lines far l) (imp_at n.imps far) f up busy (still_line n i k l s settled is at)
+      lost_by s k _ _ f up busy (still_line n i k l s settled is at)
 
   sent : (up : Bool) → port.up ≡ up → 0 < length (packets_in port.line.sending) → AreStill n (put_all lines i (if up then map (on_port k) (resent port.line) else []))
   sent true up busy = put_frames n (resent port.line) lines i k (λ l f at. lost l f up busy at) still
@@ -248,7 +249,7 @@ put_resent n lines i k s settled is still = by (length (packets_in port.line.sen
 
   by : (m : ℕ) → length (packets_in port.line.sending) ≡ m → AreStill n (put_all lines i (resent_by k port))
   by zero none = subst (λ (outs : List Outgoing). AreStill n (put_all lines i outs)) (sym (none_resent k port none)) still
-  by (suc m) some = sent port.up refl (omega (arith, some))
+  by (suc m) some = sent _ refl (omega (arith, some))
 
 -- ---- the first half of the round
 
@@ -274,7 +275,7 @@ imp_told n lines i None settled is waits still = record { lines = lines; same = 
 imp_told n lines i (Some s) settled is waits still =
     let outs : List Outgoing = told_from (vector_of s.routes) 0 s.ports in
     let all : AreStill n (put_all lines i (all_from (told_by (vector_of s.routes)) 0 s.ports)) =
-    put_ports (told_by (vector_of s.routes)) n s.ports lines i 0 s (λ j within. ap (port_at s.ports) (omega arith)) (λ others j ok. put_told n others i j s settled is ok) still in
+    put_ports _ n _ lines i 0 s (λ j within. ap (port_at s.ports) (omega arith)) (λ others j ok. put_told n others i j s settled is ok) still in
     imp_puts route outs n lines i s is (pump_still outs s waits) (subst (λ (os : List Outgoing). AreStill n (put_all lines i os)) (sym (all_told (vector_of s.routes) 0 s.ports)) all)
 
 imp_resent : (n : Net) (lines : List Wire) (i : ℕ) (o : Option State) → IsSettled n → imp_at n.imps i ≡ o → IfSome o (λ s. pump [] s ≡ ignored s) → AreStill n lines
@@ -283,13 +284,13 @@ imp_resent n lines i None settled is waits still = record { lines = lines; same 
 imp_resent n lines i (Some s) settled is waits still =
     let outs : List Outgoing = resent_from 0 s.ports in
     let all : AreStill n (put_all lines i (all_from resent_by 0 s.ports)) =
-    put_ports resent_by n s.ports lines i 0 s (λ j within. ap (port_at s.ports) (omega arith)) (λ others j ok. put_resent n others i j s settled is ok) still in
+    put_ports resent_by n _ lines i 0 s (λ j within. ap (port_at s.ports) (omega arith)) (λ others j ok. put_resent n others i j s settled is ok) still in
     imp_puts resend outs n lines i s is (pump_still outs s waits) (subst (λ (os : List Outgoing). AreStill n (put_all lines i os)) (sym (all_resent 0 s.ports)) all)
 
 refreshed_still : (n : Net) (lines : List Wire) (i : ℕ) → IsSettled n → AreStill n lines → Tells n (refreshed (record n { lines = lines }) i)
 refreshed_still n lines i settled still =
-    let told : Tells n (at_imp (imp_at n.imps i) i route (record n { lines = lines })) = imp_told n lines i (imp_at n.imps i) settled refl (settled.waits i) still in
-    let sent : Tells n (at_imp (imp_at n.imps i) i resend (record n { lines = told.lines })) = imp_resent n told.lines i (imp_at n.imps i) settled refl (settled.waits i) told.still in
+    let told : Tells n (at_imp (imp_at n.imps i) i route (record n { lines = lines })) = imp_told n lines i _ settled refl (settled.waits i) still in
+    let sent : Tells n (at_imp (imp_at n.imps i) i resend (record n { lines = told.lines })) = imp_resent n _ i _ settled refl (settled.waits i) told.still in
     subst (λ (m : Net). Tells n (at_imp (imp_at m.imps i) i resend m)) (sym told.same) sent
 
 all_still : (numbers : List ℕ) (n : Net) (lines : List Wire) → IsSettled n → AreStill n lines → Tells n (all_refreshed numbers (record n { lines = lines }))
@@ -309,18 +310,18 @@ record Leaves (n : Net) (lines : List Wire) (m : Net) : Type 0 where
 
 ignored_at : (m : Net) (i q : ℕ) (o : Option State) (f : Frame) → imp_at m.imps i ≡ o → Ignores o q f → at_imp (imp_at m.imps i) i (λ s. from_line s q f) m ≡ m
 ignored_at m i q None f is ignores = ap (λ (o : Option State). at_imp o i (λ s. from_line s q f) m) is
-ignored_at m i q (Some s) f is ignores = rests_at m i (imp_at m.imps i) s (λ s. from_line s q f) refl is ignores
+ignored_at m i q (Some s) f is ignores = rests_at m i _ s _ refl is ignores
 
 first_ignored : (n : Net) (lines : List Wire) (l : ℕ) (d : Direction) (o : Option Frame) → AreStill n lines → slice_get (frames_on d (wire_at lines l)) 0 ≡ o → IfSome o (λ f. Harmless n l d f) → delivered (record n { lines = lines }) l d o ≡ record n { lines = lines }
 first_ignored n lines l d None still is ok = refl
 first_ignored n lines l d (Some f) still is ok =
     let m : Net = record n { lines = lines } in
-    let far : far_end d (wire_at lines l) ≡ far_end d (wire_at n.lines l) = far_alike lines n.lines l d still.alike in
+    let far : far_end d (wire_at lines l) ≡ far_end d (wire_at n.lines l) = far_alike lines _ l d still.alike in
     let port : port_of lines (far_end d (wire_at lines l)) l ≡ port_of n.lines (far_end d (wire_at n.lines l)) l =
-    ap (λ (j : ℕ). port_of lines j l) far ∙ port_alike lines n.lines (far_end d (wire_at n.lines l)) l still.alike in
+    ap (λ (j : ℕ). port_of lines j l) far ∙ port_alike lines _ _ l still.alike in
     ap (λ (j : ℕ). at_imp (imp_at n.imps j) j (λ s. from_line s (port_of lines (far_end d (wire_at lines l)) l) f) m) far
     ∙ (ap (λ (q : ℕ). at_imp (imp_at n.imps (far_end d (wire_at n.lines l))) (far_end d (wire_at n.lines l)) (λ s. from_line s q f) m) port
-    ∙ ignored_at m (far_end d (wire_at n.lines l)) (port_of n.lines (far_end d (wire_at n.lines l)) l) (imp_at n.imps (far_end d (wire_at n.lines l))) f refl ok)
+    ∙ ignored_at m _ _ _ f refl ok)
 
 first_of : (n : Net) (l : ℕ) (d : Direction) (frames : List Frame) → AllByRecursion (Harmless n l d) frames → IfSome (slice_get frames 0) (λ f. Harmless n l d f)
 first_of n l d [] all = tt
@@ -335,21 +336,21 @@ none_left [] is = refl
 none_left (f ∷ frames) is = cc
 
 dropped_all : (n : Net) (l : ℕ) (d e : Direction) (w : Wire) → AllByRecursion (Harmless n l e) (frames_on e w) → AllByRecursion (Harmless n l e) (frames_on e (dropping d 0 w))
-dropped_all n l way.Forward way.Forward w all = others_of (Harmless n l way.Forward) w.forward all
+dropped_all n l way.Forward way.Forward w all = others_of _ _ all
 dropped_all n l way.Forward way.Back w all = all
 dropped_all n l way.Back way.Forward w all = all
-dropped_all n l way.Back way.Back w all = others_of (Harmless n l way.Back) w.back all
+dropped_all n l way.Back way.Back w all = others_of _ w.back all
 
 dropped_none : (d e : Direction) (w : Wire) → frames_on e w ≡ [] → frames_on e (dropping d 0 w) ≡ []
-dropped_none way.Forward way.Forward w none = none_left w.forward none
+dropped_none way.Forward way.Forward w none = none_left _ none
 dropped_none way.Forward way.Back w none = none
 dropped_none way.Back way.Forward w none = none
 dropped_none way.Back way.Back w none = none_left w.back none
 
 next_still : (n : Net) (lines : List Wire) (l : ℕ) (d : Direction) → AreStill n lines → AreStill n (set lines l (dropping d 0 (wire_at lines l)))
 next_still n lines l d still = record {
-  alike = record { ends = emptied_set lines l (dropping d 0 (wire_at lines l)) (emptied_dropping d (wire_at lines l)) ∙ still.alike.ends };
-  harmless = λ m e. at_set (λ (h : ℕ) (w : Wire). AllByRecursion (Harmless n h e) (frames_on e w)) lines l m (dropping d 0 (wire_at lines l)) no_wire (still.harmless m e) (dropped_all n l d e (wire_at lines l) (still.harmless l e));
+  alike = record { ends = emptied_set lines l _ (emptied_dropping d _) ∙ still.alike.ends };
+  harmless = λ m e. at_set (λ (h : ℕ) (w : Wire). AllByRecursion (Harmless n h e) (frames_on e w)) lines l m (dropping d 0 (wire_at lines l)) no_wire (still.harmless m e) (dropped_all n l d e _ (still.harmless l e));
 }
 
 none_dropped : (lines : List Wire) (l m : ℕ) (d e : Direction) → frames_on e (wire_at lines m) ≡ [] → frames_on e (wire_at (set lines l (dropping d 0 (wire_at lines l))) m) ≡ []
@@ -366,14 +367,14 @@ both_ways P forward back way.Back = back
 carried_one : (n : Net) (lines : List Wire) (l : ℕ) (d : Direction) → AreStill n lines → drop_frame (deliver (record n { lines = lines }) l d 0) l d 0 ≡ record n { lines = set lines l (dropping d 0 (wire_at lines l)) }
 carried_one n lines l d still =
     let frames : List Frame = frames_on d (wire_at lines l) in
-    ap (λ (m : Net). drop_frame m l d 0) (first_ignored n lines l d (slice_get frames 0) still refl (first_of n l d frames (still.harmless l d)))
+    ap (λ (m : Net). drop_frame m l d 0) (first_ignored n lines l d _ still refl (first_of n l d frames (still.harmless l d)))
 
 fewer_frames : (frames : List Frame) (count : ℕ) → length frames ≡ suc count → length (without_at 0 frames) ≡ count
 fewer_frames [] count is = absurd (omega (arith, is))
 fewer_frames (f ∷ frames) count is = omega (arith, is)
 
 fewer_on : (d : Direction) (w : Wire) (count : ℕ) → length (frames_on d w) ≡ suc count → length (frames_on d (dropping d 0 w)) ≡ count
-fewer_on way.Forward w count is = fewer_frames w.forward count is
+fewer_on way.Forward w count is = fewer_frames _ count is
 fewer_on way.Back w count is = fewer_frames w.back count is
 
 fewer : (lines : List Wire) (l : ℕ) (d : Direction) (count : ℕ) → length (frames_on d (wire_at lines l)) ≡ suc count → length (frames_on d (wire_at (set lines l (dropping d 0 (wire_at lines l))) l)) ≡ count
@@ -393,7 +394,7 @@ record Turned (n : Net) (lines : List Wire) (l : ℕ) (d : Direction) (m : Net) 
 carried_out : (count : ℕ) (n : Net) (lines : List Wire) (l : ℕ) (d : Direction) → AreStill n lines → length (frames_on d (wire_at lines l)) ≡ count → Turned n lines l d (carried count l d (record n { lines = lines }))
 carried_out zero n lines l d still is = record {
   leaves = record { after = lines; same = refl; still = still; none = λ m e none. none };
-  empty = empty_of (frames_on d (wire_at lines l)) is;
+  empty = empty_of _ is;
 }
 carried_out (suc count) n lines l d still is =
     let next : List Wire = set lines l (dropping d 0 (wire_at lines l)) in
@@ -411,12 +412,12 @@ record LineTurned (n : Net) (lines : List Wire) (l : ℕ) (m : Net) : Type 0 whe
 
 line_turned : (n : Net) (lines : List Wire) (l : ℕ) → AreStill n lines → LineTurned n lines l (turn_of l way.Back (turn_of l way.Forward (record n { lines = lines })))
 line_turned n lines l still =
-    let first : Turned n lines l way.Forward (turn_of l way.Forward (record n { lines = lines })) = carried_out (length (frames_on way.Forward (wire_at lines l))) n lines l way.Forward still refl in
+    let first : Turned n lines l way.Forward (turn_of l way.Forward (record n { lines = lines })) = carried_out _ n lines l _ still refl in
     let mid : List Wire = first.leaves.after in
-    let rest : Turned n mid l way.Back (turn_of l way.Back (record n { lines = mid })) = carried_out (length (frames_on way.Back (wire_at mid l))) n mid l way.Back first.leaves.still refl in
+    let rest : Turned n mid l way.Back (turn_of l way.Back (record n { lines = mid })) = carried_out _ n mid l _ first.leaves.still refl in
     let both : LineTurned n lines l (turn_of l way.Back (record n { lines = mid })) = record {
       leaves = record { after = rest.leaves.after; same = rest.leaves.same; still = rest.leaves.still; none = λ m e none. rest.leaves.none m e (first.leaves.none m e none) };
-      empty = both_ways (λ (d : Direction). frames_on d (wire_at rest.leaves.after l) ≡ []) (rest.leaves.none l way.Forward first.empty) rest.empty;
+      empty = both_ways _ (rest.leaves.none l way.Forward first.empty) rest.empty;
     } in
     subst (λ (m : Net). LineTurned n lines l (turn_of l way.Back m)) (sym first.leaves.same) both
 
@@ -478,7 +479,7 @@ no_length : (frames : List Frame) → (length frames == 0) ≡ true → frames �
 no_length frames none = empty_of frames (eqb-true (length frames) 0 none)
 
 silent_on : (d : Direction) (w : Wire) → is_silent w ≡ true → frames_on d w ≡ []
-silent_on way.Forward w silent = no_length w.forward (and_parts (length w.forward == 0) (length w.back == 0) silent).0
+silent_on way.Forward w silent = no_length _ (and_parts (length w.forward == 0) (length w.back == 0) silent).0
 silent_on way.Back w silent = no_length w.back (and_parts (length w.forward == 0) (length w.back == 0) silent).1
 
 waiting_of : (o : Option State) → waits_at o ≡ true → IfSome o (λ s. pump [] s ≡ ignored s)
@@ -514,7 +515,7 @@ still_at n l d s t p q from to near far still =
     (subst (λ (k : ℕ). IsStill s k t (port_of n.lines (far_end d w) l)) near (subst (λ (k : ℕ). IsStill s p t k) far still)))
 
 pub both_still : (n : Net) (l : ℕ) → IsStillOn n l way.Forward → IsStillOn n l way.Back → (d : Direction) → IsStillOn n l d
-both_still n l forward back = both_ways (IsStillOn n l) forward back
+both_still n l forward back = both_ways _ forward back
 
 one_by : (b : Bool) (n : Net) (k i : ℕ) (d : Direction) → (i == k) ≡ b → ((j : ℕ) (e : Direction) → j < k → IsStillOn n j e) → ((e : Direction) → IsStillOn n k e) → i < k + 1 → IsStillOn n i d
 one_by true n k i d is earlier here below = subst (λ (j : ℕ). IsStillOn n j d) (sym (eqb-true i k is)) (here d)

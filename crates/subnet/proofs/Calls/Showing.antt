@@ -1,5 +1,5 @@
 -- What hosts see of each call.
-use Rattle.subnet.proofs.Common.{cases_Bool, nat_tests, Host, same_host, is_host, Flow, CarrierFault, Crossing, Inbound, Direction, NetEvent, HostMessage, Frame, Message, Told, State, HostState, ImpTurn, no_host, host_at, from_line, resend, route, from_host, Net, imp_at, wire_at, port_of, frames_on, far_end, at_imp, at_up, logging, accepted, is_imp, site_at, imp_refusal, offer_out, given_at, taken_by_host, crossings_of, take_in, delivered, deliver, downs_from, downs_at, quiet_round, step_refusal, stepped, host_there, hosts_of_one, hosts_from, IsAt, IsSound}
+use Rattle.subnet.proofs.Common.{cases_Bool, nat_tests, Host, same_host, is_host, Flow, CarrierFault, Crossing, Inbound, Direction, NetEvent, HostMessage, Frame, Message, Told, State, HostState, ImpTurn, no_host, host_at, resend, route, from_host, Net, imp_at, wire_at, frames_on, far_end, at_imp, at_up, logging, accepted, is_imp, site_at, imp_refusal, offer_out, given_at, taken_by_host, crossings_of, take_in, delivered, deliver, downs_from, downs_at, quiet_round, step_refusal, stepped, host_there, hosts_of_one, hosts_from, IsAt, IsSound}
 use Rattle.std.proofs.Common.{◌≡◌, ℕ, zero, suc, ◌+◌, ◌<◌, Bool, true, false, not, List, [], ◌∷◌, ◌++◌, map, get_or, Option, Some, None, is_some, refl, ap, sym, subst, ◌∙◌, ◌==◌, ◌&&◌, if◌then◌else◌, inl, inr, eqb-true, eq-eqb, append-nil, arith, reverse, filter, All}
 use Rattle.std.specs.Prelude.{slice_get, slice_index_or, nat_lt}
 use Rattle.std.proofs.lemmas.List.{reverse-append}
@@ -11,7 +11,7 @@ use Rattle.interface.specs.declared.crossing.Crossing.TheVariants as crossing
 use Rattle.interface.specs.declared.crossing.Inbound.TheVariants as inbound
 use Rattle.interface.specs.declared.event.NetEvent.TheVariants as event
 use Rattle.interface.proofs.lemmas.{guard, mail_is, same_host-true}
-use Rattle.imp_node.specs.Taking.{to_host, first_of}
+use Rattle.imp_node.specs.Taking.{first_of}
 use Rattle.subnet.specs.Flows.{sender_at, host_is_up}
 use Rattle.subnet.specs.Seen.{seen, IsListed, SameNetwork}
 use Rattle.subnet.proofs.Calls.Rounds.{round_keeps}
@@ -23,7 +23,7 @@ use Rattle.subnet.proofs.Calls.SiteHosts.{hosts_fit}
 pub imp_says : (n : Net) (h : Host) → IsSound n → is_up n.hosts h n.log ≡ host_is_up (imp_at n.imps h.imp) h.host
 imp_says n h is =
     let f : Flow = record { source = h; destination = h; link = record { 0 = 0 } } in
-    ap (λ (m : Mail). m.source) (sym (mail_is n.hosts f n.log) ∙ (is.flows.flows f).mail) ∙ by (imp_at n.imps h.imp)
+    ap (λ (m : Mail). m.source) (sym (mail_is _ f n.log) ∙ (is.flows.flows f).mail) ∙ by (imp_at n.imps h.imp)
   where
     by : (o : Option State) → (let f : Flow = record { source = h; destination = h; link = record { 0 = 0 } } in (sender_at o f).source ≡ host_is_up o h.host)
     by None = refl
@@ -90,7 +90,7 @@ of_site j zero count (Some c ∷ sites) up site =
 of_site j (suc x) count (Some c ∷ sites) up site =
     let on : j + suc x ≡ j + 1 + x = omega arith in
     filter-append (ours (j + suc x) up) (hosts_of_one j 0 c) (hosts_from (j + 1) sites)
-    ∙ ap (λ (hs : List Host). hs ++ filter (ours (j + suc x) up) (hosts_from (j + 1) sites)) (one_skipped (j + suc x) j 0 c up (λ e. omega (arith, e)))
+    ∙ ap (λ (hs : List Host). hs ++ filter (ours (j + suc x) up) (hosts_from (j + 1) sites)) (one_skipped _ j 0 c up (λ e. omega (arith, e)))
     ∙ ap (λ (i : ℕ). filter (ours i up) (hosts_from (j + 1) sites)) on
     ∙ of_site (j + 1) x count sites up site
     ∙ ap (λ (i : ℕ). filter (ours i up) (hosts_of_one i 0 count)) (sym on)
@@ -124,7 +124,7 @@ downs_are i k (suc count) up [] is =
     } in
     downs_are i (k + 1) count up [] none
     ∙ sym (append-nil (downs_of (ours i up) (hosts_of_one i (k + 1) count)))
-    ∙ next_down (ours i up) (host_of i k) (hosts_of_one i (k + 1) count) false (test_is i k up false (here_is i k (suc count) up [] is))
+    ∙ next_down (ours i up) (host_of i k) (hosts_of_one i (k + 1) count) false (test_is i k up false (here_is i k _ up [] is))
 downs_are i k zero up (h ∷ hs) is =
     let rest : SaysUp i (k + 1) zero up hs = record {
       says = λ x. (let on : k + 1 + x ≡ k + suc x = omega arith in ap (λ (j : ℕ). up (host_of i j)) on ∙ is.says (suc x));
@@ -143,7 +143,7 @@ downs_are i k (suc count) up (h ∷ hs) is =
       within = λ x later. (let on : k + suc x ≡ k + 1 + x = omega arith in let less : suc x < suc count = is.within (suc x) (ap (λ (j : ℕ). up (host_of i j)) on ∙ later) in omega (arith, less));
     } in
     ap (λ (cs : List Crossing). cs ++ (if h.up then crossing.Down (host_of i k) ∷ [] else [])) (downs_are i (k + 1) count up hs rest)
-    ∙ next_down (ours i up) (host_of i k) (hosts_of_one i (k + 1) count) h.up (test_is i k up h.up (here_is i k (suc count) up (h ∷ hs) is))
+    ∙ next_down (ours i up) (host_of i k) (hosts_of_one i (k + 1) count) h.up (test_is i k up h.up (here_is i k _ up _ is))
 
 -- an IMP of this many hosts
 site_downs : (n : Net) (i count : ℕ) (s : State) → imp_at n.imps i ≡ Some s → site_at n i ≡ Some count → IsListed n → IsSound n → downs_from i 0 s.hosts ≡ step_crossings (seen n) (event.ImpDown i)
@@ -151,27 +151,27 @@ site_downs n i count s there site listed is =
     let up : Host → Bool = λ h. is_up n.hosts h n.log in
     let number : 0 + i ≡ i = omega arith in
     let filtered : filter (ours i up) (hosts_from 0 n.sites) ≡ filter (ours i up) (hosts_of_one i 0 count) =
-    ap (λ (j : ℕ). filter (ours j up) (hosts_from 0 n.sites)) (sym number) ∙ of_site 0 i count n.sites up site ∙ ap (λ (j : ℕ). filter (ours j up) (hosts_of_one j 0 count)) number in
-    downs_are i 0 count up s.hosts (record { says = says; within = within })
+    ap (λ (j : ℕ). filter (ours j up) (hosts_from 0 n.sites)) (sym number) ∙ of_site 0 i count _ up site ∙ ap (λ (j : ℕ). filter (ours j up) (hosts_of_one j 0 count)) number in
+    downs_are i 0 count up _ (record { says = says; within = within })
     ∙ ap (λ (hs : List Host). reverse (map (λ (h : Host). crossing.Down h) hs)) (sym filtered ∙ ap (λ (hs : List Host). filter (ours i up) hs) (sym listed))
   where
     says : (x : ℕ) → is_up n.hosts (host_of i (0 + x)) n.log ≡ (get_or s.hosts x no_host).up
     says x =
         let same : 0 + x ≡ x = omega arith in
-        ap (λ (j : ℕ). is_up n.hosts (host_of i j) n.log) same ∙ imp_says n (host_of i x) is ∙ ap (λ (o : Option State). host_is_up o x) there
+        ap (λ (j : ℕ). is_up n.hosts (host_of i j) n.log) same ∙ imp_says n _ is ∙ ap (λ (o : Option State). host_is_up o x) there
 
     within : (x : ℕ) → is_up n.hosts (host_of i (0 + x)) n.log ≡ true → x < count
     within x up =
         let same : 0 + x ≡ x = omega arith in
         let h : Host = host_of i x in
-        let known : is_host n.hosts h ≡ true = up_is_host n.hosts n.log h is.flows.ups (ap (λ (j : ℕ). is_up n.hosts (host_of i j) n.log) (sym same) ∙ up) in
+        let known : is_host n.hosts h ≡ true = up_is_host _ n.log h is.flows.ups (ap (λ (j : ℕ). is_up n.hosts (host_of i j) n.log) (sym same) ∙ up) in
         let less : nat_lt x count ≡ true = sym (ap (λ (hs : List Host). is_host hs h) listed ∙ hosts_fit n.sites h ∙ ap (λ (o : Option ℕ). host_there o x) site) ∙ known in
         grind (arith, nat_tests, less)
 
 imp_down_shown : (n : Net) (i : ℕ) → imp_refusal n i ≡ None → IsListed n → IsSound n → downs_at i (imp_at n.imps i) ≡ step_crossings (seen n) (event.ImpDown i)
 imp_down_shown n i allowed listed is =
     let last : Option CarrierFault = at_up (imp_at n.imps i) accepted in
-    let there : (not (is_imp n i) ≡ false) × (last ≡ None) = guard (not (is_imp n i)) fault.NoSuch last allowed in
+    let there : (not (is_imp n i) ≡ false) × (last ≡ None) = guard _ _ last allowed in
     by (imp_at n.imps i) refl (site_at n i) refl there.0 there.1
   where
     by : (o : Option State) → imp_at n.imps i ≡ o → (site : Option ℕ) → site_at n i ≡ site → not (is_some site) ≡ false → at_up o accepted ≡ None → downs_at i o ≡ step_crossings (seen n) (event.ImpDown i)
@@ -190,13 +190,13 @@ deliver_log : (n : Net) (l : ℕ) (d : Direction) (k : ℕ) → (deliver n l d k
 deliver_log n l d k = by (slice_get (frames_on d (wire_at n.lines l)) k) where
   by : (o : Option Frame) → (delivered n l d o).log ≡ n.log
   by None = refl
-  by (Some f) = let i : ℕ = far_end d (wire_at n.lines l) in call_log (imp_at n.imps i) i (λ s. from_line s (port_of n.lines i l) f) [] n
+  by (Some f) = let i : ℕ = far_end d _ in call_log _ i _ [] n
 
 pub offer_log : (n : Net) (m : HostMessage) → (offer_out n m).log ≡ crossing.Out m ∷ n.log
 offer_log n m = call_log (imp_at n.imps m.flow.source.imp) m.flow.source.imp (λ s. from_host s m) (crossing.Out m ∷ []) n
 
 pub take_log : (n : Net) (h : Host) → (take_in n h).log ≡ crossings_of (taken_by_host n h) ++ n.log
-take_log n h = call_log (imp_at n.imps h.imp) h.imp (λ s. to_host s h.host) (crossings_of (taken_by_host n h)) n
+take_log n h = call_log _ h.imp _ _ n
 
 pub step_log : (n : Net) (e : NetEvent) → step_refusal n e ≡ None → IsListed n → IsSound n → (stepped n e).log ≡ step_crossings (seen n) e ++ n.log
 step_log n (event.Deliver l d k) allowed listed is = deliver_log n l d k
@@ -238,16 +238,16 @@ deliver_same : (n : Net) (l : ℕ) (d : Direction) (k : ℕ) → SameNetwork n (
 deliver_same n l d k = by (slice_get (frames_on d (wire_at n.lines l)) k) where
   by : (o : Option Frame) → SameNetwork n (delivered n l d o)
   by None = record { hosts = refl; sites = refl }
-  by (Some f) = let i : ℕ = far_end d (wire_at n.lines l) in call_same (imp_at n.imps i) i (λ s. from_line s (port_of n.lines i l) f) _ n
+  by (Some f) = let i : ℕ = far_end d _ in call_same _ i _ _ n
 
 same_then : (l m n : Net) → SameNetwork l m → SameNetwork m n → SameNetwork l n
 same_then l m n first second = record { hosts = second.hosts ∙ first.hosts; sites = second.sites ∙ first.sites }
 
 pub offer_same : (n : Net) (m : HostMessage) → SameNetwork n (offer_out n m)
-offer_same n m = call_same (imp_at n.imps m.flow.source.imp) m.flow.source.imp (λ s. from_host s m) _ n
+offer_same n m = call_same _ _ _ _ n
 
 pub take_same : (n : Net) (h : Host) → SameNetwork n (take_in n h)
-take_same n h = call_same (imp_at n.imps h.imp) h.imp (λ s. to_host s h.host) _ n
+take_same n h = call_same _ h.imp _ _ n
 
 pub step_same : (n : Net) (e : NetEvent) → SameNetwork n (stepped n e)
 step_same n (event.Deliver l d k) = deliver_same n l d k
@@ -256,12 +256,12 @@ step_same n (event.Garble l d k) = record { hosts = refl; sites = refl }
 step_same n (event.ImpDown i) = record { hosts = refl; sites = refl }
 step_same n (event.ImpUp i) = record { hosts = refl; sites = refl }
 -- every other event is a call of one IMP
-step_same n e = call_same (imp_at n.imps _) _ _ _ n
+step_same n e = call_same _ _ _ _ n
 
 pub round_same : (n : Net) → SameNetwork n (quiet_round n)
-round_same n = round_keeps (SameNetwork n) (record {
-  route = λ m i same. same_then n m (at_imp (imp_at m.imps i) i route m) same (call_same (imp_at m.imps i) i route _ m);
-  resend = λ m i same. same_then n m (at_imp (imp_at m.imps i) i resend m) same (call_same (imp_at m.imps i) i resend _ m);
+round_same n = round_keeps _ (record {
+  route = λ m i same. same_then n m (at_imp (imp_at m.imps i) i route m) same (call_same _ i route _ m);
+  resend = λ m i same. same_then n m (at_imp (imp_at m.imps i) i resend m) same (call_same _ i resend _ m);
   deliver = λ m l d k same. same_then n m (deliver m l d k) same (deliver_same m l d k);
   drop = λ m l d k same. record { hosts = same.hosts; sites = same.sites };
 }) n (record { hosts = refl; sites = refl })

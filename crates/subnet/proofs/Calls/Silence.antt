@@ -18,7 +18,7 @@ any_none : {X : Type 0} (test : X → Bool) (xs : List X) → list_any test xs �
 any_none {X} test [] none = let Not : X → Type 0 = λ x. test x ≡ false in All-nil Not
 any_none {X} test (x ∷ xs) none =
     let Not : X → Type 0 = λ y. test y ≡ false in
-    let both : (test x ≡ false) × (list_any test xs ≡ false) = or_false (test x) (list_any test xs) none in
+    let both : (test x ≡ false) × (list_any test xs ≡ false) = or_false (test x) _ none in
     All-cons Not x xs both.0 (any_none test xs both.1)
 
 -- whether a packet or a message of an IMP passes
@@ -31,13 +31,13 @@ NonePass test asked ps ms = All (λ p. test p ≡ false) ps × All (λ m. asked 
 
 imp_silent : (test : PacketFields → Bool) (asked : Message → Bool) (o : Option State) → says (passes test asked) o ≡ false → NonePass test asked (packets_at_imp o) (messages_at_imp o)
 imp_silent test asked None none = (All-nil (λ (p : PacketFields). test p ≡ false), All-nil (λ (m : Message). asked m ≡ false))
-imp_silent test asked (Some s) none = not_found test asked (imp.packets s) (imp.messages s) none
+imp_silent test asked (Some s) none = not_found test asked _ _ none
 
 imps_silent : (test : PacketFields → Bool) (asked : Message → Bool) (imps : List (Option State)) → list_any (says (passes test asked)) imps ≡ false
     → NonePass test asked (flat_map packets_at_imp imps) (flat_map messages_at_imp imps)
 imps_silent test asked [] none = (All-nil (λ (p : PacketFields). test p ≡ false), All-nil (λ (m : Message). asked m ≡ false))
 imps_silent test asked (o ∷ imps) none =
-    let both : (says (passes test asked) o ≡ false) × (list_any (says (passes test asked)) imps ≡ false) = or_false (says (passes test asked) o) (list_any (says (passes test asked)) imps) none in
+    let both : (says (passes test asked) o ≡ false) × (list_any (says (passes test asked)) imps ≡ false) = or_false (says (passes test asked) o) _ none in
     let here : NonePass test asked (packets_at_imp o) (messages_at_imp o) = imp_silent test asked o both.0 in
     let rest : NonePass test asked (flat_map packets_at_imp imps) (flat_map messages_at_imp imps) = imps_silent test asked imps both.1 in
     (All-append (λ (p : PacketFields). test p ≡ false) (packets_at_imp o) (flat_map packets_at_imp imps) here.0 rest.0, All-append (λ (m : Message). asked m ≡ false) (messages_at_imp o) (flat_map messages_at_imp imps) here.1 rest.1)
@@ -45,18 +45,18 @@ imps_silent test asked (o ∷ imps) none =
 lines_silent : (test : PacketFields → Bool) (lines : List Wire) → list_any (carries test) lines ≡ false → All (λ p. test p ≡ false) (flat_map packets_on_wire lines)
 lines_silent test [] none = All-nil (λ (p : PacketFields). test p ≡ false)
 lines_silent test (w ∷ ws) none =
-    let both : (carries test w ≡ false) × (list_any (carries test) ws ≡ false) = or_false (carries test w) (list_any (carries test) ws) none in
-    All-append (λ (p : PacketFields). test p ≡ false) (packets_on_wire w) (flat_map packets_on_wire ws) (any_none test (packets_on_wire w) both.0) (lines_silent test ws both.1)
+    let both : (carries test w ≡ false) × (list_any (carries test) ws ≡ false) = or_false (carries test w) _ none in
+    All-append (λ (p : PacketFields). test p ≡ false) (packets_on_wire w) (flat_map packets_on_wire ws) (any_none test _ both.0) (lines_silent test ws both.1)
 
 pub nowhere : (n : Net) (test : PacketFields → Bool) (asked : Message → Bool) → anywhere n (passes test asked) test ≡ false → NonePass test asked (packets n) (messages n)
 nowhere n test asked none =
-    let both : (list_any (says (passes test asked)) n.imps ≡ false) × (list_any (carries test) n.lines ≡ false) = or_false (list_any (says (passes test asked)) n.imps) (list_any (carries test) n.lines) none in
+    let both : (list_any (says (passes test asked)) n.imps ≡ false) × (list_any (carries test) n.lines ≡ false) = or_false (list_any (says _) n.imps) _ none in
     let held : NonePass test asked (flat_map packets_at_imp n.imps) (flat_map messages_at_imp n.imps) = imps_silent test asked n.imps both.0 in
     (All-append (λ (p : PacketFields). test p ≡ false) (flat_map packets_at_imp n.imps) (flat_map packets_on_wire n.lines) held.0 (lines_silent test n.lines both.1), held.1)
 
 -- nothing of a flow has this number
 pub not_alive : (n : Net) (f : Flow) (number : ℕ) → is_alive n f number ≡ false → All (NotIn f number) (packets n) × All (NotOf f number) (messages n)
-not_alive n f number none = nowhere n (packet_has f number) (message_has f number) none
+not_alive n f number none = nowhere n _ _ none
 
 -- ---- the queue of one flow
 
@@ -70,13 +70,13 @@ parts_right P (x ∷ xs) ys all = parts_right P xs ys (All-tail P x (xs ++ ys) a
 
 pub at_imp_all : (P : Message → Type 0) (imps : List (Option State)) (i : ℕ) → All P (flat_map messages_at_imp imps) → All P (messages_at_imp (imp_at imps i))
 at_imp_all P [] i all = All-nil P
-at_imp_all P (o ∷ imps) zero all = parts_left P (messages_at_imp o) (flat_map messages_at_imp imps) all
-at_imp_all P (o ∷ imps) (suc i) all = at_imp_all P imps i (parts_right P (messages_at_imp o) (flat_map messages_at_imp imps) all)
+at_imp_all P (o ∷ imps) zero all = parts_left P _ _ all
+at_imp_all P (o ∷ imps) (suc i) all = at_imp_all P imps i (parts_right P _ _ all)
 
 pub at_host_all : (P : Message → Type 0) (hosts : List HostState) (h : ℕ) → All P (flat_map (λ (x : HostState). x.queue) hosts) → All P (get_or hosts h no_host).queue
 at_host_all P [] h all = All-nil P
-at_host_all P (x ∷ hosts) zero all = parts_left P x.queue (flat_map (λ (y : HostState). y.queue) hosts) all
-at_host_all P (x ∷ hosts) (suc h) all = at_host_all P hosts h (parts_right P x.queue (flat_map (λ (y : HostState). y.queue) hosts) all)
+at_host_all P (x ∷ hosts) zero all = parts_left P _ _ all
+at_host_all P (x ∷ hosts) (suc h) all = at_host_all P hosts h (parts_right P _ _ all)
 
 -- the queue in which the messages of a flow wait
 abbrev pub host_queue : Option State → Flow → List Message
@@ -84,7 +84,7 @@ host_queue None f = []
 host_queue (Some s) f = (host_at s f.destination.host).queue
 
 pub queue_all : (P : Message → Type 0) (n : Net) (f : Flow) → All P (messages n) → All P (host_queue (imp_at n.imps f.destination.imp) f)
-queue_all P n f all = by (imp_at n.imps f.destination.imp) (at_imp_all P n.imps f.destination.imp all) where
+queue_all P n f all = by (imp_at n.imps f.destination.imp) (at_imp_all P n.imps _ all) where
   by : (o : Option State) → All P (messages_at_imp o) → All P (host_queue o f)
   by None here = All-nil P
   by (Some s) here = at_host_all P s.hosts f.destination.host here
@@ -99,7 +99,7 @@ numbers_apart f number (m ∷ ms) all = by (same_flow f m.flow) refl (All-head (
 
 queue_apart : (f : Flow) (number : ℕ) (o : Option State) → All (NotOf f number) (messages_at_imp o) → All (λ m. (m.number == number) ≡ false) (receiver_at o f).queue
 queue_apart f number None all = All-nil (λ (m : Message). (m.number == number) ≡ false)
-queue_apart f number (Some s) all = numbers_apart f number (host_at s f.destination.host).queue (at_host_all (NotOf f number) s.hosts f.destination.host all)
+queue_apart f number (Some s) all = numbers_apart f number _ (at_host_all (NotOf f number) s.hosts f.destination.host all)
 
 pub queue_silent : (n : Net) (f : Flow) (number : ℕ) → All (NotOf f number) (messages n) → All (λ m. (m.number == number) ≡ false) (receiver_at (imp_at n.imps f.destination.imp) f).queue
-queue_silent n f number all = queue_apart f number (imp_at n.imps f.destination.imp) (at_imp_all (NotOf f number) n.imps f.destination.imp all)
+queue_silent n f number all = queue_apart f number _ (at_imp_all (NotOf f number) n.imps _ all)

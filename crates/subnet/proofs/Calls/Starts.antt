@@ -29,8 +29,8 @@ one_more_down own ports k hosts below =
     let left : hosts - k ≡ suc (hosts - (k + 1)) = omega arith in
     let next : suc k ≡ k + 1 = omega arith in
     subst (λ (m : ℕ). (host_down (down_to own ports k m) k).state ≡ down_to own ports (k + 1) (hosts - (k + 1))) (sym left)
-    (quiet_down (down_to own ports k (suc (hosts - (k + 1)))) k (next_up k (hosts - (k + 1))) refl
-    ∙ ap (λ (hosts : List HostState). record (opening_node own 0 ports) { hosts = hosts }) (next_down k (hosts - (k + 1)))
+    (quiet_down _ k (next_up k _) refl
+    ∙ ap (λ (hosts : List HostState). record (opening_node own 0 ports) { hosts = hosts }) (next_down k _)
     ∙ ap (λ (m : ℕ). down_to own ports m (hosts - (k + 1))) next)
 
 pub opened : (own ports hosts : ℕ) → opening_node own hosts ports ≡ down_to own ports 0 (hosts - 0)
@@ -55,7 +55,7 @@ below_sites (site ∷ sites) (suc i) (suc m) there few =
     omega arith
 
 pub few_sites : (n : Net) (i : ℕ) → is_imp n i ≡ true → length n.sites ≤ most_imps + 1 → i + 1 ≤ most_imps + 1
-few_sites n i there few = below_sites n.sites i (most_imps + 1) there few
+few_sites n i there few = below_sites _ i _ there few
 
 pub all_ports : (lines : List Wire) (i : ℕ) → port_of lines i (length lines) ≡ count_by (ends_at i) lines
 all_ports lines i = ap (count_by (ends_at i)) (take-length lines)
@@ -74,7 +74,7 @@ beside_same i at (Some s) live same =
 pub beside_other : (i at : ℕ) (o : Option State) → IsLive at o → (at ≡ i → ⊥) → says (λ s. queries.keeps s i) o ≡ is_beside i o
 beside_other i at None live other = refl
 beside_other i at (Some s) live other =
-    let foreign : (number s == i) ≡ false = unlike (number s) i (λ same. other (sym live.0 ∙ same)) in
+    let foreign : (number s == i) ≡ false = unlike _ i (λ same. other (sym live.0 ∙ same)) in
     rw foreign refl
 
 abbrev pub is_awaited_beside_it : ℕ → Option State → Bool
@@ -89,7 +89,7 @@ awaited_same i at (Some s) live same =
 pub awaited_other : (i at : ℕ) (o : Option State) → IsLive at o → (at ≡ i → ⊥) → says (λ s. queries.awaits s i) o ≡ is_awaited_beside_it i o
 awaited_other i at None live other = refl
 awaited_other i at (Some s) live other =
-    let foreign : (number s == i) ≡ false = unlike (number s) i (λ same. other (sym live.0 ∙ same)) in
+    let foreign : (number s == i) ≡ false = unlike _ i (λ same. other (sym live.0 ∙ same)) in
     rw foreign refl
 
 pub started_lives : (imps : List (Option State)) (i hosts ports : ℕ) → AreLive imps → AreLive (set imps i (Some (started_imp i hosts ports)))

@@ -32,7 +32,7 @@ pub in_order_is : (i k : ℕ) (hosts : List HostState) → reverse (downs_from i
 in_order_is i k [] = refl
 in_order_is i k (h ∷ hosts) =
     reverse-append (downs_from i (k + 1) hosts) (down_of i k h)
-    ∙ ap (λ (xs : List Crossing). xs ++ reverse (downs_from i (k + 1) hosts)) (reverse_one (crossing.Down (record { imp = i; host = k })) h.up)
+    ∙ ap (λ (xs : List Crossing). xs ++ reverse (downs_from i (k + 1) hosts)) (reverse_one _ h.up)
     ∙ ap (λ (xs : List Crossing). down_of i k h ++ xs) (in_order_is i (k + 1) hosts)
 
 -- the hosts from one on: that one, and then the others; none is past the end
@@ -69,7 +69,7 @@ one_up false c xs others later some = later (subst (λ (ys : List Crossing). 0 <
 
 some_up : (i k : ℕ) (hosts : List HostState) → 0 < length (downs_from i k hosts) → list_any (λ host. host.up) hosts ≡ true
 some_up i k [] some = absurd (omega arith)
-some_up i k (h ∷ hosts) some = one_up h.up (crossing.Down (record { imp = i; host = k })) (downs_from i (k + 1) hosts) (list_any (λ host. host.up) hosts) (some_up i (k + 1) hosts) some
+some_up i k (h ∷ hosts) some = one_up h.up _ _ _ (some_up i (k + 1) hosts) some
 
 pub crossed_up : (o : Option State) (i : ℕ) (items : List Crossing) → items ≡ reverse (downs_at i o) → 0 < length items → grows_at o has_host_up ≡ true
 crossed_up None i items is some = let none : length items ≡ 0 = ap length is in absurd (omega arith)

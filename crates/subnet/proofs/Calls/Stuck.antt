@@ -16,11 +16,11 @@ all_stuck : (s : State) (ps : List PacketFields) → list_all (is_stuck s) ps �
 all_stuck s [] all = tt
 all_stuck s (p ∷ ps) all =
     let both = and_parts (is_stuck s p) (list_all (is_stuck s) ps) all in
-    (stuck_stays s p (next_of s.routes (target p)) both.0, all_stuck s ps both.1)
+    (stuck_stays s p _ both.0, all_stuck s ps both.1)
 
 -- the pump then does nothing
 pub only_rests : (s : State) → only_waits s ≡ true → pump [] s ≡ ignored s
-only_rests s all = stuck_rests s (all_stuck s s.store all)
+only_rests s all = stuck_rests s (all_stuck s _ all)
 
 pub none_first : (answers : List Told) (queue : List Message) → length answers ≡ 0 → length queue ≡ 0 → first_of answers queue ≡ None
 none_first [] [] answers queue = refl

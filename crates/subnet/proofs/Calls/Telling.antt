@@ -36,7 +36,7 @@ put_both (out ∷ outs) others lines i = put_both outs others (put_one lines i o
 pub told_next : (s : State) (k i : ℕ) (lines : List Wire) → k < length s.ports
     → put_all lines i (told_from (vector_of s.routes) k (drop k s.ports)) ≡ put_all (put_all lines i (told_by (vector_of s.routes) k (port_at s.ports k))) i (told_from (vector_of s.routes) (k + 1) (drop (k + 1) s.ports))
 told_next s k i lines within =
-    ap (λ (ports : List Port). put_all lines i (told_from (vector_of s.routes) k ports)) (drop_more s.ports k down_port within)
+    ap (λ (ports : List Port). put_all lines i (told_from (vector_of s.routes) k ports)) (drop_more _ k down_port within)
     ∙ put_both (told_by (vector_of s.routes) k (port_at s.ports k)) (told_from (vector_of s.routes) (k + 1) (drop (k + 1) s.ports)) lines i
 
 -- the frames of all ports from this one on, where these are the frames of one
@@ -67,14 +67,14 @@ all_told distances k [] = refl
 all_told distances k (port ∷ ports) = ap (λ (outs : List Outgoing). told_by distances k port ++ outs) (all_told distances (k + 1) ports)
 
 pub some_told : (s : State) (k : ℕ) → k < length s.ports → 0 < length (told_by (vector_of s.routes) k (port_at s.ports k)) → 0 < length (told_from (vector_of s.routes) 0 s.ports)
-some_told s k within some = some_of_all (told_by (vector_of s.routes)) s.ports (told_from (vector_of s.routes) 0 s.ports) k (all_told (vector_of s.routes) 0 s.ports) within some
+some_told s k within some = some_of_all (told_by (vector_of s.routes)) _ _ k (all_told (vector_of s.routes) 0 s.ports) within some
 
 -- ---- the subnet
 
 -- where no packet waits, it does nothing else
 pub tells_alone : (s : State) → length s.store ≡ 0
     → route s ≡ record { state = s; frames = told_from (vector_of s.routes) 0 s.ports }
-tells_alone s none = pump_with (told_from (vector_of s.routes) 0 s.ports) s none
+tells_alone s none = pump_with _ s none
 
 turned : (turn : State → ImpTurn) (frames : State → List Outgoing) (n : Net) (i : ℕ) (o : Option State) → imp_at n.imps i ≡ o → OnlyPuts turn frames o → record n { lines = put_all n.lines i (frames_by_up frames o) } ≡ at_imp o i turn n
 turned turn frames n i None at only = refl
@@ -84,7 +84,7 @@ turned turn frames n i (Some s) at only =
 
 pub put_alone : {T E : Type 0} (turn : State → ImpTurn) (frames : State → List Outgoing) (r : Result T E) (n new : Net) (i : ℕ) → OnlyPuts turn frames (imp_at n.imps i)
     → OnOk r (new ≡ record n { lines = put_all n.lines i (frames_by_up frames (imp_at n.imps i)) }) → OnOk r (new ≡ at_imp (imp_at n.imps i) i turn n)
-put_alone turn frames (Ok x) n new i only is = is ∙ turned turn frames n i (imp_at n.imps i) refl only
+put_alone turn frames (Ok x) n new i only is = is ∙ turned turn frames n i _ refl only
 put_alone turn frames (Err e) n new i only is = tt
 
 pub told_alone : {T E : Type 0} (r : Result T E) (n new : Net) (i : ℕ) → OnlyTells (imp_at n.imps i) → OnOk r (new ≡ record n { lines = put_all n.lines i (told (imp_at n.imps i)) }) → OnOk r (new ≡ at_imp (imp_at n.imps i) i (call_turn call.Route) n)

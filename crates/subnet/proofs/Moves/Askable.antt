@@ -59,8 +59,8 @@ was_awaited (Move.Reply x told) v number none is = is
 pub awaited_before : (ms : List Move) (v : View) (number : ℕ) → one_begins ms ≡ false → (after_all ms v).outstanding ≡ Some number → v.outstanding ≡ Some number
 awaited_before [] v number none is = is
 awaited_before (m ∷ ms) v number none is =
-    let both : (begins m ≡ false) × (one_begins ms ≡ false) = or_false (begins m) (one_begins ms) none in
-    awaited_before ms v number both.1 (was_awaited m (after_all ms v) number both.0 is)
+    let both : (begins m ≡ false) × (one_begins ms ≡ false) = or_false (begins m) _ none in
+    awaited_before ms v number both.1 (was_awaited m _ number both.0 is)
 
 -- the question about each outstanding message is a packet by the format
 abbrev pub Askable : Net → Flow → Type 0
@@ -71,4 +71,4 @@ pub same_askable : (n m : Net) (f : Flow) → view m f ≡ view n f → IsSound 
 same_askable n m f same is number awaited = is.askable f number (ap (λ (v : View). v.outstanding) (sym same) ∙ awaited)
 
 pub moved_askable : (n m : Net) (f : Flow) (ms : List Move) → view m f ≡ after_all ms (view n f) → one_begins ms ≡ false → IsSound n → Askable m f
-moved_askable n m f ms same none is number awaited = is.askable f number (awaited_before ms (view n f) number none (ap (λ (v : View). v.outstanding) (sym same) ∙ awaited))
+moved_askable n m f ms same none is number awaited = is.askable f number (awaited_before ms _ number none (ap (λ (v : View). v.outstanding) (sym same) ∙ awaited))

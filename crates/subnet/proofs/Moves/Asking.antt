@@ -1,5 +1,5 @@
 -- An IMP asks what became of a message.
-use Rattle.subnet.proofs.Common.{All-nil, All-cons, is_host, Flow, CarrierFault, guard, PacketFields, IsPacket, flow_of, Kind, makes_one, State, ImpTurn, ask, ask_refusal, answer_packet, is_own, outstanding, has_room_to, Net, imp_at, with_turn, Alive, packet_of, sender_at, view, OnlyNew, made_at, IsAt, IsSound}
+use Rattle.subnet.proofs.Common.{All-nil, All-cons, is_host, Flow, CarrierFault, guard, PacketFields, IsPacket, flow_of, Kind, makes_one, State, ImpTurn, ask, ask_refusal, answer_packet, is_own, outstanding, has_room_to, Net, imp_at, with_turn, packet_of, sender_at, view, OnlyNew, made_at, IsAt, IsSound}
 use Rattle.std.proofs.Common.{◌≡◌, ℕ, false, not, List, [], ◌∷◌, Option, Some, None, refl, ap, sym, ◌∙◌, subst, inl, All, if◌then◌else◌}
 use Rattle.std.specs.Prelude.{is_none}
 use Rattle.interface.specs.declared.carrier.CarrierFault.TheVariants as fault
@@ -36,17 +36,17 @@ asked_turn n f s number at awaited is =
     let only : OnlyNew n (question ∷ []) next = subst (λ (ps : List PacketFields). OnlyNew n ps next) made all in
     let Ours : PacketFields → Type 0 = λ q. flow_of q ≡ f in
     let Told : PacketFields → Type 0 = λ q. IsTold Kind.Ask number (packet_of q) in
-    followed_turn n i s turn [] f (move ∷ []) (question ∷ []) (record {
+    followed_turn n i s turn [] f _ _ (record {
       at = at;
       sound = ask_imp i s f (subst (IsAt i) at (is.imps i));
       others = λ g other. ask_unmoved s f g;
-      crossings = none_cross n.hosts f n.log;
+      crossings = none_cross _ f n.log;
       only = only;
       of_flow = All-cons Ours question [] refl (All-nil Ours);
       formats = All-cons IsPacket question [] (question_format n f number asked is) (All-nil IsPacket);
       answers = subst (All Answerable) (sym (same_waiting s f number awaited)) (answerable n i s at is);
       here =
-          makes_one move (view n f) (view next f) (Alive n f) (Alive next f) asked (turn_view n i s turn f at (ask_unmoved s f f))
+          makes_one move _ _ _ _ asked (turn_view n i s turn f at (ask_unmoved s f f))
           (λ x. alive_or_made n next (question ∷ []) (IsTold Kind.Ask number) f x only (All-cons Told question [] (record { kind = refl; number = refl }) (All-nil Told)));
       shown = refl;
       begun = inl refl;
@@ -58,7 +58,7 @@ pub ask_sound : (n : Net) (f : Flow) → asking_refusal n f ≡ None → IsSound
 ask_sound n f accepted is =
     let i : ℕ = f.source.imp in
     let last : Option CarrierFault = at_up (imp_at n.imps i) (λ s. ask_refusal s f) in
-    let there : (not (is_host n.hosts f.source) ≡ false) × (last ≡ None) = guard (not (is_host n.hosts f.source)) fault.NoSuch last accepted in
+    let there : (not (is_host n.hosts f.source) ≡ false) × (last ≡ None) = guard _ _ last accepted in
     by (imp_at n.imps i) refl there.1
   where
     named : (s : State) → imp_at n.imps f.source.imp ≡ Some s → (o : Option ℕ) → outstanding s f ≡ o → is_none o ≡ false → IsSound (with_turn f.source.imp (ask s f) n)
@@ -70,6 +70,6 @@ ask_sound n f accepted is =
     by (Some s) at own =
         let last : Option CarrierFault = if not (has_room_to s f.destination.imp) then Some fault.NoRoom else None in
         let second : Option CarrierFault = if is_none (outstanding s f) then Some fault.NotOutstanding else last in
-        let host : (not (is_own s f.source) ≡ false) × (second ≡ None) = guard (not (is_own s f.source)) fault.NoSuch second own in
-        let some : (is_none (outstanding s f) ≡ false) × (last ≡ None) = guard (is_none (outstanding s f)) fault.NotOutstanding last host.1 in
-        named s at (outstanding s f) refl some.0
+        let host : (not (is_own s f.source) ≡ false) × (second ≡ None) = guard _ _ second own in
+        let some : (is_none (outstanding s f) ≡ false) × (last ≡ None) = guard _ _ last host.1 in
+        named s at _ refl some.0

@@ -1,5 +1,6 @@
 -- A frame is delivered.
-use Rattle.subnet.proofs.Common.{flat_map, map-append, All-nil, All-cons, All-head, All-push, All-weaker, All-contains, All-contains_itself, Contains-append_left, Flow, Answer, Direction, outstanding_in, release_in, kept_in, fate_in, Fate, Release, Standing, PacketKind, carried_by, answer_to, ChannelFault, Frame, Received, makes_one, Message, State, ImpTurn, number, host_at, port_at, answer_packet, pump, Sender, Receiver, sender, receiver, ended_with, noted_with, queued_with, IsImp, AllUnmoved, Moved, Net, imp_at, wire_at, port_of, with_turn, frames_on, far_end, packets, at_imp, delivered, deliver, Alive, kind_of, packet_of, queued_of, imp_is_up, sender_at, receiver_at, view_of, view, IsAt, IsSound}
+use Rattle.subnet.proofs.Common.{flat_map, map-append, All-nil, All-cons, All-head, All-push, All-weaker, All-contains, All-contains_itself, Contains-append_left, Flow, Answer, Direction, outstanding_in, release_in, Fate, Release, Standing, PacketKind, carried_by, answer_to, ChannelFault, Frame, Received, makes_one, Message, State, ImpTurn, number, host_at, port_at, answer_packet, pump, Sender, Receiver, sender, receiver, ended_with, noted_with, queued_with, IsImp, AllUnmoved, Moved, Net, imp_at, wire_at, port_of, with_turn, frames_on, far_end, packets, at_imp, delivered, deliver, Alive, kind_of, packet_of, queued_of, imp_is_up, sender_at, receiver_at, view_of, view, IsAt, IsSound}
+use Rattle.link_table.specs.Flows.{fate_in, kept_in}
 use Rattle.std.proofs.Common.{◌≡◌, ℕ, Bool, true, false, List, [], ◌∷◌, ◌++◌, Option, Some, None, Result, Ok, Err, refl, ap, sym, ◌∙◌, subst, inl, inr, ◌==◌, eqb-true, cond, append-nil, All, Contains}
 use Rattle.std.specs.Prelude.{slice_get}
 use Rattle.std.specs.FinMap as finite
@@ -23,7 +24,7 @@ use Rattle.flow_law.specs.View.{View, Packet, Queued, is_refusal}
 use Rattle.flow_law.specs.Moves as law
 use Rattle.flow_law.specs.Moves.{Move, NoteGone, Whole, Freed, Reply, Brings, CanNote, Joined, IsLost, IsRefusal, IsTold, view_moved}
 use Rattle.imp_node.specs.Arrival as arrivals
-use Rattle.imp_node.specs.Arrival.{Arrival, Passing, Old, Undeliverable, Replying, Piece, NoSlot, Unmarked, Answering, arrival, arrival_has_room, arrived, frame_taken, acknowledged, vector_heard, ignored, taken_frame, from_line}
+use Rattle.imp_node.specs.Arrival.{Arrival, Passing, Old, Undeliverable, Replying, Piece, NoSlot, Unmarked, Answering, arrival, arrival_has_room, arrived, frame_taken, acknowledged, ignored, taken_frame, from_line}
 use Rattle.imp_node.specs.Contents as contents
 use Rattle.imp_node.specs.Making.{told_for}
 use Rattle.imp_node.specs.Moves.{IsNewHere, IsAskedHere, IsRefused, TellsFate, MakesWhole, Tells, ArrivalSays, ArrivalMoves, AnswerMoves, FrameMoves}
@@ -43,7 +44,7 @@ use Rattle.subnet.proofs.Moves.Turns.{Answerable, turn_only, turn_nothing, alive
 -- ---- what waits after a packet arrived
 
 told_format : (p : PacketFields) → IsPacket p → IsPacket (answer_packet kind.Rfnm (flow_of p) p.number)
-told_format p format = answer_format kind.Rfnm (flow_of p) p.number (record { first = refl; only = refl; empty = refl }) format.source format.destination format.link format.number
+told_format p format = answer_format _ _ _ (record { first = refl; only = refl; empty = refl }) format.source format.destination format.link format.number
 
 arrived_answers : (a : Arrival) (p : PacketFields) (s : State) → IsPacket p → All Answerable (contents.messages s) → All Answerable (contents.messages (arrived a p s))
 arrived_answers Passing p s format all = all
@@ -55,10 +56,10 @@ arrived_answers NoSlot p s format all = all
 arrived_answers (arrivals.Whole text) p s format all =
     let h : ℕ = p.destination.host in
     let q : Message = record { flow = flow_of p; number = p.number; text = text } in
-    set_queue Answerable s.hosts h (record (host_at s h) { queue = (host_at s h).queue ++ q ∷ [] }) all
-    (All-push Answerable (host_at s h).queue q (at_host_all Answerable s.hosts h all) (told_format p format))
+    set_queue Answerable _ h _ all
+    (All-push Answerable (host_at s h).queue q (at_host_all Answerable _ h all) (told_format p format))
 arrived_answers Unmarked p s format all = all
-arrived_answers (Answering k) p s format all = freed_messages k (flow_of p) p.number s all
+arrived_answers (Answering k) p s format all = freed_messages k _ _ s all
 
 -- ---- a packet that arrived, and what its arrival did
 
@@ -106,20 +107,20 @@ noted_sound n i s p turn made lost gone b new moved only of_flow formats dead is
     let g : Flow = flow_of p in
     let next : Net = with_turn i turn n in
     let move : Move = NoteGone (packet_of p) lost in
-    followed_turn n i s turn [] g (move ∷ []) made (record {
+    followed_turn n i s turn [] g _ made (record {
       at = b.at;
       sound = b.new;
       others = moved.others;
-      crossings = none_cross n.hosts g n.log;
+      crossings = none_cross _ g n.log;
       only = only;
       of_flow = of_flow;
       formats = formats;
       answers = b.answers;
       here =
-          makes_one move (view n g) (view next g) (Alive n g) (Alive next g) (can_note n i s p turn b new, gone)
-          (moved_view n i s turn [] g (sender_at (imp_at n.imps g.source.imp) g) (noted_with p.number lost (receiver_at (imp_at n.imps g.destination.imp) g)) (view n g).box b.at
-          (source_same n.imps i s turn.state g b.at moved.sender)
-          (destination_changed (noted_with p.number lost) n.imps i s turn.state g b.at (home n i s p turn b new) moved.receiver)
+          makes_one move _ _ _ _ (can_note n i s p turn b new, gone)
+          (moved_view n i s turn [] g _ _ _ b.at
+          (source_same n.imps i s _ g b.at moved.sender)
+          (destination_changed (noted_with p.number lost) n.imps i s _ g b.at (home n i s p turn b new) moved.receiver)
           refl)
           (λ x. alive_or_made n next made (IsRefusal p.number) g x only dead);
       shown = refl;
@@ -128,7 +129,7 @@ noted_sound n i s p turn made lost gone b new moved only of_flow formats dead is
 
 -- a packet of any kind but data that reports on this one is by the format
 reply_format : (told : PacketKind) (p : PacketFields) → IsPacket p → Carries told 0 true 0 → IsPacket (answer_packet told (flow_of p) p.number)
-reply_format told p format carries = answer_format told (flow_of p) p.number carries format.source format.destination format.link format.number
+reply_format told p format carries = answer_format told _ _ carries format.source format.destination format.link format.number
 
 -- what is answered about a number that is noted without its message being taken
 record RefusedWith (new : Fate) (told : PacketKind) : Type 0 where
@@ -152,7 +153,7 @@ undeliverable_sound n i s p turn new told refused b here moved only is =
     let r : RefusedWith new told = refused_with new told s p refused in
     let Ours : PacketFields → Type 0 = λ q. flow_of q ≡ g in
     let Told : PacketFields → Type 0 = λ q. IsRefusal p.number (packet_of q) in
-    noted_sound n i s p turn (reply ∷ []) new r.lost b here moved only
+    noted_sound n i s p turn _ new r.lost b here moved only
     (All-cons Ours reply [] refl (All-nil Ours))
     (All-cons IsPacket reply [] (reply_format told p b.format r.carries) (All-nil IsPacket))
     (All-cons Told reply [] (record { refusal = r.refusal; number = refl }) (All-nil Told)) is
@@ -178,23 +179,23 @@ replying_sound n i s p turn told b asked still only is =
     let next : Net = with_turn i turn n in
     let move : Move = Reply (packet_of p) (kind_of told) in
     let reply : PacketFields = answer_packet told g p.number in
-    let r : RepliedWith asked.noted.fate told = replied_with asked.noted.fate told asked.tells in
+    let r : RepliedWith asked.noted.fate told = replied_with _ told asked.tells in
     let at : imp_at n.imps g.destination.imp ≡ Some s = ap (imp_at n.imps) (asked.here ∙ b.old.own) ∙ b.at in
     let known : (receiver_at (imp_at n.imps g.destination.imp) g).kept ≡ Some asked.noted = ap (λ (o : Option State). (receiver_at o g).kept) at ∙ asked.kept in
     let fated : asked.noted.fate ≡ (view n g).fate = sym (ap fate_in known) in
     let Ours : PacketFields → Type 0 = λ q. flow_of q ≡ g in
     let Told : PacketFields → Type 0 = λ q. IsTold (kind_of told) p.number (packet_of q) in
-    followed_turn n i s turn [] g (move ∷ []) (reply ∷ []) (record {
+    followed_turn n i s turn [] g _ _ (record {
       at = b.at;
       sound = b.new;
       others = λ f other. still f;
-      crossings = none_cross n.hosts g n.log;
+      crossings = none_cross _ g n.log;
       only = only;
       of_flow = All-cons Ours reply [] refl (All-nil Ours);
       formats = All-cons IsPacket reply [] (reply_format told p b.format r.carries) (All-nil IsPacket);
       answers = b.answers;
       here =
-          makes_one move (view n g) (view next g) (Alive n g) (Alive next g)
+          makes_one move _ _ _ _
           (record {
             there = alive_here n p b.there;
             kept = ap kept_in known ∙ ap Some asked.same;
@@ -214,7 +215,7 @@ whole_joined n i s p turn w b makes text pieces =
     let g : Flow = flow_of p in
     let ps : List PacketFields = gathered s.slots p in
     let Held : PacketFields → Type 0 = Contains (packets n) in
-    let r : IsRejoined s.slots p w = rejoined s.slots p w b.old.slots b.format makes.data_kind makes.whole in
+    let r : IsRejoined s.slots p w = rejoined _ p w b.old.slots b.format makes.data_kind makes.whole in
     let has : Has Held s = subst (ImpHas Held) b.at (imp_has Held n.imps i (net_itself n).imps) in
     let all : All Held (slots.packets_in s.slots ++ p ∷ []) = All-push Held (slots.packets_in s.slots) p has.slots b.there in
     let held : (q : PacketFields) → Contains ps q → Held q = λ q there. All-contains Held (slots.packets_in s.slots ++ p ∷ []) q all (All-contains (Contains (slots.packets_in s.slots ++ p ∷ [])) ps q r.one_message.among there) in
@@ -226,7 +227,7 @@ whole_joined n i s p turn w b makes text pieces =
     let carries : CarriesPieceOf (body text) q = record { there = here.there; flag = here.flag; same = here.same } in
     carries))
     ps (All-contains_itself ps) in
-    ap text_of (r.bits ∙ joined_whole (body text) ps carry r.one_message.whole) ∙ text_of-body text
+    ap text_of (r.bits ∙ joined_whole _ ps carry r.one_message.whole) ∙ text_of-body text
 
 whole_sound : (n : Net) (i : ℕ) (s : State) (p : PacketFields) (turn : ImpTurn) (w text : List Bool) → IsBrought n i s p turn → MakesWhole s p w → text ≡ text_of w
     → Moved s turn.state (flow_of p) (sender s (flow_of p)) (queued_with (record { flow = flow_of p; number = p.number; text = text }) (noted_with p.number fate.Waits (receiver s (flow_of p))))
@@ -240,21 +241,21 @@ whole_sound n i s p turn w text b makes is_text moved only is =
     let to : Receiver = receiver_at (imp_at n.imps g.destination.imp) g in
     let joins : Joined flows.Piece (Alive n g) (packet_of p) text = λ other pieces. is_text ∙ whole_joined n i s p turn w b makes other pieces in
     let waits : view next g ≡ view_of (imp_is_up (imp_at n.imps g.source.imp)) from (imp_is_up (imp_at n.imps g.destination.imp)) (queued_with message (noted_with p.number fate.Waits to)) (view n g).box =
-    moved_view n i s turn [] g from (queued_with message (noted_with p.number fate.Waits to)) (view n g).box b.at
-    (source_same n.imps i s turn.state g b.at moved.sender)
-    (destination_changed (λ (r : Receiver). queued_with message (noted_with p.number fate.Waits r)) n.imps i s turn.state g b.at (home n i s p turn b makes.new) moved.receiver)
+    moved_view n i s turn [] g from _ _ b.at
+    (source_same n.imps i s _ g b.at moved.sender)
+    (destination_changed (λ (r : Receiver). queued_with message (noted_with p.number fate.Waits r)) n.imps i s _ g b.at (home n i s p turn b makes.new) moved.receiver)
     refl in
-    followed_turn n i s turn [] g (move ∷ []) [] (record {
+    followed_turn n i s turn [] g _ [] (record {
       at = b.at;
       sound = b.new;
       others = moved.others;
-      crossings = none_cross n.hosts g n.log;
+      crossings = none_cross _ g n.log;
       only = only;
       of_flow = All-nil (λ (q : PacketFields). flow_of q ≡ g);
       formats = All-nil IsPacket;
       answers = b.answers;
       here =
-          makes_one move (view n g) (view next g) (Alive n g) (Alive next g)
+          makes_one move _ _ _ _
           (record { note = can_note n i s p turn b makes.new; joined = joins })
           (waits ∙ ap (λ (q : List Queued). (let v : View = record (view_moved move (view n g)) { queue = q } in v)) (map-append queued_of to.queue (message ∷ [])))
           (λ x. alive_or_made n next [] (λ (y : Packet). ⊥) g x only (All-nil (λ (q : PacketFields). ⊥)));
@@ -297,25 +298,25 @@ answered_sound n i s p turn k b here tells frees moved only is =
     let move : Move = Freed (packet_of p) k in
     let source : g.source.imp ≡ i = here ∙ b.old.own in
     let at : imp_at n.imps g.source.imp ≡ Some s = ap (imp_at n.imps) source ∙ b.at in
-    followed_turn n i s turn [] g (move ∷ []) [] (record {
+    followed_turn n i s turn [] g _ [] (record {
       at = b.at;
       sound = b.new;
       others = moved.others;
-      crossings = none_cross n.hosts g n.log;
+      crossings = none_cross _ g n.log;
       only = only;
       of_flow = All-nil (λ (q : PacketFields). flow_of q ≡ g);
       formats = All-nil IsPacket;
       answers = b.answers;
       here =
-          makes_one move (view n g) (view next g) (Alive n g) (Alive next g)
+          makes_one move _ _ _ _
           (record {
             there = alive_here n p b.there;
             brings = brings_of p.kind k tells;
-            awaited = ap (λ (o : Option State). (sender_at o g).outstanding) at ∙ freed_awaited (finite.get s.sources g) p.number frees;
+            awaited = ap (λ (o : Option State). (sender_at o g).outstanding) at ∙ freed_awaited _ _ frees;
           })
-          (moved_view n i s turn [] g (ended_with k (sender_at (imp_at n.imps g.source.imp) g)) (receiver_at (imp_at n.imps g.destination.imp) g) (view n g).box b.at
-          (source_changed (ended_with k) n.imps i s turn.state g b.at source moved.sender)
-          (destination_same n.imps i s turn.state g b.at moved.receiver)
+          (moved_view n i s turn [] g _ _ _ b.at
+          (source_changed (ended_with k) n.imps i s _ g b.at source moved.sender)
+          (destination_same n.imps i s _ g b.at moved.receiver)
           refl)
           (λ x. alive_or_made n next [] (λ (y : Packet). ⊥) g x only (All-nil (λ (q : PacketFields). ⊥)));
       shown = refl;
@@ -334,7 +335,7 @@ arrival_sound Piece n i s p turn b says moves only is = silent_arrival n i s p t
 arrival_sound NoSlot n i s p turn b says moves only is = silent_arrival n i s p turn b moves only is
 arrival_sound (arrivals.Whole text) n i s p turn b says moves only is = whole_sound n i s p turn says.0 text b says.1 says.3 moves only is
 arrival_sound Unmarked n i s p turn b says moves only is =
-    noted_sound n i s p turn [] fate.Never tt b says.1.new moves only (All-nil (λ (q : PacketFields). flow_of q ≡ flow_of p)) (All-nil IsPacket) (All-nil (λ (q : PacketFields). IsRefusal p.number (packet_of q))) is
+    noted_sound n i s p turn [] _ tt b says.1.new moves only (All-nil (λ (q : PacketFields). flow_of q ≡ flow_of p)) (All-nil IsPacket) (All-nil (λ (q : PacketFields). IsRefusal p.number (packet_of q))) is
 arrival_sound (Answering k) n i s p turn b says moves only is = by (release_in p.number (finite.get s.sources (flow_of p))) refl moves where
   by : (r : Release) → release_in p.number (finite.get s.sources (flow_of p)) ≡ r → AnswerMoves r k (flow_of p) s turn.state → IsSound (with_turn i turn n)
   by release.Freed frees moved = answered_sound n i s p turn k b says.0 says.1 frees moved only is
@@ -382,7 +383,7 @@ fresh_sound : (n : Net) (i : ℕ) (s : State) (k : ℕ) (f : Frame) (p : PacketF
     IsFrame n i s f turn → IsSound (with_turn i turn n))
 fresh_sound n i s k f p carried live frame =
     let turn : ImpTurn = pump (acknowledged k (frame_taken k f s)) (arrived (arrival s p) p (frame_taken k f s)) in
-    let all : All (Contains (packets n)) (p ∷ []) = subst (All (Contains (packets n))) carried (frame_packets (Contains (packets n)) f live.there) in
+    let all : All (Contains (packets n)) (p ∷ []) = subst (All (Contains (packets n))) carried (frame_packets _ f live.there) in
     let there : Contains (packets n) p = All-head (Contains (packets n)) p [] all in
     let format : IsPacket p = All-contains IsPacket (packets n) p live.sound.formats there in
     let brought : IsBrought n i s p turn = record {
@@ -398,7 +399,7 @@ fresh_sound n i s k f p carried live frame =
     elim frame.moves [
       | inl still ↦ still_sound (arrival s p) k f n i s p brought (arrival_says s p) still only live.sound
       | inr (q, of, moves) ↦ (let same : q ≡ p = first (sym of ∙ carried) in
-          arrival_sound (arrival s p) n i s p turn brought (arrival_says s p) (subst (λ (r : PacketFields). ArrivalMoves (arrival s r) r s turn.state) same moves) only live.sound)
+          arrival_sound _ n i s p turn brought (arrival_says s p) (subst (λ (r : PacketFields). ArrivalMoves (arrival s r) r s turn.state) same moves) only live.sound)
     ]
   where
     first : {q r : PacketFields} → (q ∷ []) ≡ (r ∷ []) → q ≡ r
@@ -406,7 +407,7 @@ fresh_sound n i s k f p carried live frame =
 
 ignored_sound : (n : Net) (i : ℕ) (s : State) (f : Frame) → IsLive n i s f → IsFrame n i s f (ignored s) → IsSound (with_turn i (ignored s) n)
 ignored_sound n i s f live frame =
-    quiet_frame n i s f (ignored s) live frame (λ g. record { sender = refl; receiver = refl }) refl (λ has. record { state = has; frames = All-nil (OutgoingHas (Contains (packets n))) })
+    quiet_frame n i s f _ live frame (λ g. record { sender = refl; receiver = refl }) refl (λ has. record { state = has; frames = All-nil (OutgoingHas (Contains (packets n))) })
 
 frame_sound : (got : Result Received ChannelFault) (n : Net) (i : ℕ) (s : State) (k : ℕ) (f : Frame) → ((p : PacketFields) → got ≡ Ok (received.Fresh p) → carried_by f.content ≡ p ∷ [])
     → IsLive n i s f → IsFrame n i s f (taken_frame got k f s) → IsSound (with_turn i (taken_frame got k f s) n)
@@ -417,15 +418,15 @@ frame_sound (Ok (received.Fresh p)) n i s k f carried live frame = at (arrival_h
   at false frame = ignored_sound n i s f live frame
 frame_sound (Ok received.Repeat) n i s k f carried live frame =
     let P : PacketFields → Type 0 = Contains (packets n) in
-    quiet_frame n i s f (pump (acknowledged k (frame_taken k f s)) (frame_taken k f s)) live frame (λ g. record { sender = refl; receiver = refl }) refl
+    quiet_frame n i s f _ live frame (λ g. record { sender = refl; receiver = refl }) refl
     (λ has. pump_has P (acknowledged k (frame_taken k f s)) (frame_taken k f s) (All-cons (OutgoingHas P) _ [] tt (All-nil (OutgoingHas P))) (taken_has P k f s has))
 frame_sound (Ok received.AckOnly) n i s k f carried live frame =
     let P : PacketFields → Type 0 = Contains (packets n) in
-    quiet_frame n i s f (pump [] (frame_taken k f s)) live frame (λ g. record { sender = refl; receiver = refl }) refl (λ has. quiet_has P (frame_taken k f s) (taken_has P k f s has))
+    quiet_frame n i s f _ live frame (λ g. record { sender = refl; receiver = refl }) refl (λ has. quiet_has P (frame_taken k f s) (taken_has P k f s has))
 frame_sound (Ok (received.Routes distances)) n i s k f carried live frame =
     let P : PacketFields → Type 0 = Contains (packets n) in
-    quiet_frame n i s f (pump [] (vector_heard k distances (frame_taken k f s))) live frame (λ g. record { sender = refl; receiver = refl }) refl
-    (λ has. (let got : Has P (frame_taken k f s) = taken_has P k f s has in quiet_has P (vector_heard k distances (frame_taken k f s)) (record { store = got.store; lines = got.lines; slots = got.slots })))
+    quiet_frame n i s f _ live frame (λ g. record { sender = refl; receiver = refl }) refl
+    (λ has. (let got : Has P (frame_taken k f s) = taken_has P k f s has in quiet_has P _ (record { store = got.store; lines = got.lines; slots = got.slots })))
 frame_sound (Err fault) n i s k f carried live frame = ignored_sound n i s f live frame
 
 line_sound : (n : Net) (i : ℕ) (s : State) (k : ℕ) (f : Frame) → IsLive n i s f → IsSound (with_turn i (from_line s k f) n)
@@ -434,11 +435,11 @@ line_sound n i s k f live =
     let carried : All Held (carried_by f.content) = frame_packets Held f live.there in
     let formats : All IsPacket (carried_by f.content) = All-weaker Held IsPacket (λ p there. All-contains IsPacket (packets n) p live.sound.formats there) (carried_by f.content) carried in
     let Grown : PacketFields → Type 0 = Contains (packets n ++ told_made f s) in
-    let got : FrameHas Grown f = content_has Grown f.content (All-weaker Held Grown (λ p there. Contains-append_left (packets n) (told_made f s) p there) (carried_by f.content) carried) in
+    let got : FrameHas Grown f = content_has Grown _ (All-weaker Held Grown (λ p there. Contains-append_left (packets n) (told_made f s) p there) (carried_by f.content) carried) in
     at (port_at s.ports k).up (record {
       new = from_line_imp i s k f formats live.old;
       moves = from_line_moves s k f;
-      only = turn_only n i s (from_line s k f) (told_made f s) live.at (λ has dead. from_line_has Grown s k f has (brings Grown s f got dead));
+      only = turn_only n i s _ _ live.at (λ has dead. from_line_has Grown s k f has (brings Grown s f got dead));
     })
   where
     at : (up : Bool) → IsFrame n i s f (cond up (taken_frame (answer_to (port_at s.ports k).line f) k f s) (ignored s))
@@ -449,7 +450,7 @@ line_sound n i s k f live =
 -- ---- the event
 
 pub deliver_sound : (n : Net) (l : ℕ) (d : Direction) (k : ℕ) → IsSound n → IsSound (deliver n l d k)
-deliver_sound n l d k is = by (slice_get (frames_on d (wire_at n.lines l)) k) (got_has Held (frames_on d (wire_at n.lines l)) k (way_holds (FrameHas Held) d (wire_at n.lines l) (wire_holds (FrameHas Held) n.lines l (net_itself n).lines))) where
+deliver_sound n l d k is = by (slice_get (frames_on d (wire_at n.lines l)) k) (got_has Held _ k (way_holds _ d _ (wire_holds _ _ l (net_itself n).lines))) where
   Held : PacketFields → Type 0
   Held = Contains (packets n)
 
@@ -457,9 +458,9 @@ deliver_sound n l d k is = by (slice_get (frames_on d (wire_at n.lines l)) k) (g
       → IsSound (at_imp o (far_end d (wire_at n.lines l)) (λ s. from_line s (port_of n.lines (far_end d (wire_at n.lines l)) l) f) n)
   at f has None here = is
   at f has (Some s) here =
-      let i : ℕ = far_end d (wire_at n.lines l) in
-      line_sound n i s (port_of n.lines i l) f (record { at = here; old = subst (IsAt i) here (is.imps i); there = has; sound = is })
+      let i : ℕ = far_end d _ in
+      line_sound n i s _ f (record { at = here; old = subst (IsAt i) here (is.imps i); there = has; sound = is })
 
   by : (o : Option Frame) → GotHas Held o → IsSound (delivered n l d o)
   by None has = is
-  by (Some f) has = at f has (imp_at n.imps (far_end d (wire_at n.lines l))) refl
+  by (Some f) has = at f has (imp_at n.imps (far_end d _)) refl

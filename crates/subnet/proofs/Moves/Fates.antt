@@ -41,15 +41,15 @@ ended_all new (m ∷ ms) o = ended_all new ms (option_map (ended_in m.number new
 
 pub kept_all : (new : Fate) (ms : List Message) (o : Option Noted) → kept_in (ended_all new ms o) ≡ kept_in o
 kept_all new [] o = refl
-kept_all new (m ∷ ms) o = kept_all new ms (option_map (ended_in m.number new) o) ∙ kept_ended m.number new o
+kept_all new (m ∷ ms) o = kept_all new ms (option_map (ended_in m.number new) o) ∙ kept_ended _ new o
 
 pub fate_all : (new : Fate) (ms : List Message) (o : Option Noted) → fate_in (ended_all new ms o) ≡ with_fates (kept_in o) (map queued_of ms) new (fate_in o)
 fate_all new [] o = refl
 fate_all new (m ∷ ms) o =
     let p : Option Noted = option_map (ended_in m.number new) o in
     fate_all new ms p
-    ∙ ap (λ (k : Option ℕ). with_fates k (map queued_of ms) new (fate_in p)) (kept_ended m.number new o)
-    ∙ ap (λ (x : Fate). with_fates (kept_in o) (map queued_of ms) new x) (fate_ended m.number new o)
+    ∙ ap (λ (k : Option ℕ). with_fates k (map queued_of ms) new (fate_in p)) (kept_ended _ new o)
+    ∙ ap (λ (x : Fate). with_fates (kept_in o) (map queued_of ms) new x) (fate_ended _ new o)
 
 -- ---- the view of a flow
 
@@ -65,4 +65,4 @@ pub taken_view : (u : Bool) (s : Sender) (w : Bool) (r : Receiver) (box : Box) (
     ≡ record (view_of u s w r box) { fate = with_fate (kept_in r.kept) n fate.Taken (fate_in r.kept); queue = map queued_of queue })
 taken_view u s w r box n f others =
     let left : Receiver = record r { queue = messages_of f others } in
-    view_fated u s w left box (option_map (ended_in n fate.Taken) r.kept) (with_fate (kept_in r.kept) n fate.Taken (fate_in r.kept)) (kept_ended n fate.Taken r.kept) (fate_ended n fate.Taken r.kept)
+    view_fated u s w left box _ _ (kept_ended n _ r.kept) (fate_ended n _ r.kept)

@@ -1,5 +1,5 @@
 -- An IMP forgets the numbers of flows from another one: those flows forget, and no other moves.
-use Rattle.subnet.proofs.Common.{slice_set, All-contains, Box, box_of, Flow, CarrierFault, and_true, guard, or_false, outstanding_to_none, PacketFields, flow_of, View, Packet, is_request, Follows, AllFollow, State, ImpTurn, Sender, Receiver, sender, receiver, forget, Net, imp_at, with_turn, packets, messages_at_imp, has_data, is_awaited_at, NothingNew, IsAt, IsSound}
+use Rattle.subnet.proofs.Common.{slice_set, All-contains, Box, Flow, CarrierFault, and_true, guard, or_false, outstanding_to_none, PacketFields, View, Packet, is_request, Follows, AllFollow, State, ImpTurn, Sender, Receiver, sender, receiver, forget, Net, imp_at, with_turn, packets, messages_at_imp, has_data, is_awaited_at, NothingNew, IsAt, IsSound}
 use Rattle.std.proofs.Common.{◌≡◌, ℕ, Bool, true, false, not, List, [], ◌∷◌, Option, Some, None, refl, ap, sym, subst, ◌∙◌, ◌==◌, ◌&&◌, ◌||◌, if◌then◌else◌, inl, All, eqb-true}
 use Rattle.std.specs.FinMap as finite
 use Rattle.interface.specs.declared.carrier.CarrierFault.TheVariants as fault
@@ -7,7 +7,7 @@ use Rattle.link_table.specs.Keys.{is_from}
 use Rattle.flow_law.specs.Moves.{Move, CanForget, after_all, shown_by}
 use Rattle.flow_law.proofs.lemmas.{makes_one, stays}
 use Rattle.imp_node.specs.Queries as queries
-use Rattle.imp_node.specs.Queries.{is_request_between, is_message_between}
+use Rattle.imp_node.specs.Queries.{is_request_between}
 use Rattle.imp_node.specs.Moves.{Becomes}
 use Rattle.imp_node.proofs.lemmas.{at_set, forget_becomes, forget_imp, same_at}
 use Rattle.subnet.specs.Events.{at_imp, at_up, first_of, accepted, is_imp, forgetting_refusal}
@@ -41,7 +41,7 @@ no_request n at from f silent here x a request =
     let both : (f.destination.imp == at) ≡ true × is_from from f ≡ true = and_true (f.destination.imp == at) (is_from from f) here in
     let missing : is_request_between from at p ≡ false = All-contains (λ (q : PacketFields). is_request_between from at q ≡ false) (packets n) p silent a.there in
     let found : is_request_between from at p ≡ true =
-    all_three (queries.is_request p.kind) ((flow_of p).source.imp == from) ((flow_of p).destination.imp == at)
+    all_three _ _ _
     (sym (request_is p.kind) ∙ ap (λ (y : Packet). is_request y.kind) a.packet ∙ request)
     (ap (λ (g : Flow). g.source.imp == from) a.flow ∙ both.1)
     (ap (λ (g : Flow). g.destination.imp == at) a.flow ∙ both.0) in
@@ -51,14 +51,14 @@ no_request n at from f silent here x a request =
 -- nothing of a flow that an IMP doesn't await is outstanding there
 pub none_awaited : (o : Option State) (at : ℕ) (f : Flow) → is_awaited_at o at ≡ false → (f.destination.imp == at) ≡ true → (sender_at o f).outstanding ≡ None
 none_awaited None at f none here = refl
-none_awaited (Some s) at f none here = outstanding_to_none s.sources at none f here
+none_awaited (Some s) at f none here = outstanding_to_none _ at none f here
 
 can_forget : (n : Net) (at from : ℕ) (f : Flow) → All (λ p. is_request_between from at p ≡ false) (packets n) → is_awaited_at (imp_at n.imps from) at ≡ false → goes at from f ≡ true → CanForget (view n f) (Alive n f)
 can_forget n at from f silent none here =
     let both : (f.destination.imp == at) ≡ true × is_from from f ≡ true = and_true (f.destination.imp == at) (is_from from f) here in
     record {
       no_request = no_request n at from f silent here;
-      idle = ap (λ (k : ℕ). (sender_at (imp_at n.imps k) f).outstanding) (eqb-true f.source.imp from both.1) ∙ none_awaited (imp_at n.imps from) at f none both.0;
+      idle = ap (λ (k : ℕ). (sender_at (imp_at n.imps k) f).outstanding) (eqb-true f.source.imp from both.1) ∙ none_awaited _ at f none both.0;
     }
 
 -- ---- what they change
@@ -83,18 +83,18 @@ new_view n at from s f there =
     let becomes : Becomes s t f (sender s f) (record (receiver s f) { kept = if is_from from f then None else finite.get s.kept f }) = forget_becomes s from f in
     let old : receiver_at (imp_at n.imps at) f ≡ receiver s f = ap (λ (o : Option State). receiver_at o f) there in
     let new : receiver t f ≡ forgotten (is_from from f) (receiver_at (imp_at n.imps at) f) =
-    becomes.receiver ∙ forgotten_is (is_from from f) (receiver s f) ∙ ap (forgotten (is_from from f)) (sym old) in
+    becomes.receiver ∙ forgotten_is _ _ ∙ ap (forgotten (is_from from f)) (sym old) in
     view_parts
-    (imp_is_up (imp_at imps i)) (imp_is_up (imp_at n.imps i))
-    (sender_at (imp_at imps i) f) (sender_at (imp_at n.imps i) f)
-    (imp_is_up (imp_at imps j)) (imp_is_up (imp_at n.imps j))
-    (receiver_at (imp_at imps j) f) (forgotten (goes at from f) (receiver_at (imp_at n.imps j) f))
-    (box_of f n.log)
+    _ _
+    _ _
+    _ _
+    _ _
+    _
     (same_at imp_is_up n.imps at i (Some t) None (ap imp_is_up (sym there)))
     (same_at (λ (o : Option State). sender_at o f) n.imps at i (Some t) None (becomes.sender ∙ ap (λ (o : Option State). sender_at o f) (sym there)))
     (same_at imp_is_up n.imps at j (Some t) None (ap imp_is_up (sym there)))
-    (at_end (λ (o : Option State). receiver_at o f) forgotten n.imps at j (Some t) (is_from from f) (λ r. refl) (set_here n.imps at (Some t) s there) new)
-    ∙ forgotten_view (goes at from f) (imp_is_up (imp_at n.imps i)) (imp_is_up (imp_at n.imps j)) (sender_at (imp_at n.imps i) f) (receiver_at (imp_at n.imps j) f) (box_of f n.log)
+    (at_end (λ (o : Option State). receiver_at o f) forgotten n.imps at j (Some t) _ (λ r. refl) (set_here n.imps at _ s there) new)
+    ∙ forgotten_view _ _ _ _ _ _
 
 follows : (b : Bool) (old new : View) (before later : Packet → Type 0) → (b ≡ true → CanForget old before) → new ≡ after_all (if b then Move.Forget ∷ [] else []) old → ((x : Packet) → later x → before x)
     → Follows Piece (if b then Move.Forget ∷ [] else []) old new before later
@@ -115,7 +115,7 @@ forgot : (n : Net) (at from : ℕ) (s : State) → imp_at n.imps at ≡ Some s �
 forgot n at from s there none idle is =
     let turn : ImpTurn = forget s from in
     let m : Net = with_turn at turn n in
-    let silent : All (λ p. is_request_between from at p ≡ false) (packets n) = (nowhere n (is_request_between from at) (is_message_between from at) none).0 in
+    let silent : All (λ p. is_request_between from at p ≡ false) (packets n) = (nowhere n _ _ none).0 in
     let among : NothingNew n m = subst (λ (o : Option State). NothingNew n (at_imp o at (λ (t : State). forget t from) n)) there (forget_nothing n at from) in
     let follow : AllFollow Piece n.hosts [] n.log (moves at from) (view n) (view m) (Alive n) (Alive m) = record {
       follows = λ f. follows (goes at from f) (view n f) (view m f) (Alive n f) (Alive m f) (can_forget n at from f silent idle) (new_view n at from s f there) (λ x. alive_less n m f x among);
@@ -125,7 +125,7 @@ forgot n at from s there none idle is =
     all_moved n m.imps m.lines [] (moves at from) follow
     (λ k. at_set IsAt n.imps at k (Some turn.state) None (is.imps k) (forget_imp at s from (subst (IsAt at) there (is.imps at))))
     (formats_less n m among is.formats)
-    (subst (All Answerable) (sym (kept_messages n.imps at (Some turn.state) (ap messages_at_imp (sym there)))) is.answers)
+    (subst (All Answerable) (sym (kept_messages n.imps at _ (ap messages_at_imp (sym there)))) is.answers)
     (λ f. none_begins (goes at from f))
     is
 
@@ -133,11 +133,11 @@ pub forget_sound : (n : Net) (at from : ℕ) → forgetting_refusal n at from �
 forget_sound n at from allowed is =
     let last : Option CarrierFault = at_up (imp_at n.imps at) accepted in
     let alive : Bool = has_data n from at || is_awaited_at (imp_at n.imps from) at in
-    let third : Option CarrierFault = first_of alive fault.StillAlive last in
-    let there : (not (is_imp n at && is_imp n from) ≡ false) × (first_of (at == from) fault.NoSuch third ≡ None) = guard (not (is_imp n at && is_imp n from)) fault.NoSuch (first_of (at == from) fault.NoSuch third) allowed in
-    let other : ((at == from) ≡ false) × (third ≡ None) = guard (at == from) fault.NoSuch third there.1 in
-    let dead : (alive ≡ false) × (last ≡ None) = guard alive fault.StillAlive last other.1 in
-    let silent : (has_data n from at ≡ false) × (is_awaited_at (imp_at n.imps from) at ≡ false) = or_false (has_data n from at) (is_awaited_at (imp_at n.imps from) at) dead.0 in
+    let third : Option CarrierFault = first_of alive _ last in
+    let there : (not (is_imp n at && is_imp n from) ≡ false) × (first_of (at == from) fault.NoSuch third ≡ None) = guard _ _ _ allowed in
+    let other : ((at == from) ≡ false) × (third ≡ None) = guard _ _ third there.1 in
+    let dead : (alive ≡ false) × (last ≡ None) = guard alive _ last other.1 in
+    let silent : (has_data n from at ≡ false) × (is_awaited_at (imp_at n.imps from) at ≡ false) = or_false (has_data n from at) _ dead.0 in
     by (imp_at n.imps at) refl silent.0 silent.1
   where
     by : (o : Option State) → imp_at n.imps at ≡ o → has_data n from at ≡ false → is_awaited_at (imp_at n.imps from) at ≡ false → IsSound (at_imp o at (λ s. forget s from) n)

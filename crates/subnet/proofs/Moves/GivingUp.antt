@@ -39,7 +39,7 @@ no_queued number (m ∷ ms) all =
 
 unread : (n : Net) (f : Flow) (number : ℕ) → All (NotOf f number) (messages n) → (q : Queued) → Contains (view n f).queue q → q.number ≢ number
 unread n f number silent q there same =
-    let missing : (q.number == number) ≡ false = All-contains (λ (r : Queued). (r.number == number) ≡ false) (view n f).queue q (no_queued number (receiver_at (imp_at n.imps f.destination.imp) f).queue (queue_silent n f number silent)) there in
+    let missing : (q.number == number) ≡ false = All-contains (λ (r : Queued). (r.number == number) ≡ false) (view n f).queue q (no_queued number _ (queue_silent n f number silent)) there in
     let both : true ≡ false = sym (eq-eqb q.number number same) ∙ missing in
     absurd (cc)
 
@@ -59,15 +59,15 @@ given_up_view n f s number at moved =
     let t : State = (give_up s f).state in
     let imps : List (Option State) = slice_set n.imps i (Some t) in
     let old : sender_at (imp_at n.imps i) f ≡ sender s f = ap (λ (o : Option State). sender_at o f) at in
-    let here : imp_at imps i ≡ Some t = set_at n.imps i (Some t) s at in
+    let here : imp_at imps i ≡ Some t = set_at n.imps i _ s at in
     let new : sender_at (imp_at imps i) f ≡ ended_with answer.Incomplete (sender_at (imp_at n.imps i) f) =
     ap (λ (o : Option State). sender_at o f) here ∙ moved.sender ∙ ap (ended_with answer.Incomplete) (sym old) in
     view_parts
-    (imp_is_up (imp_at imps i)) (imp_is_up (imp_at n.imps i))
-    (sender_at (imp_at imps i) f) (ended_with answer.Incomplete (sender_at (imp_at n.imps i) f))
-    (imp_is_up (imp_at imps j)) (imp_is_up (imp_at n.imps j))
-    (receiver_at (imp_at imps j) f) (receiver_at (imp_at n.imps j) f)
-    (view n f).box
+    _ _
+    _ _
+    _ _
+    _ _
+    _
     (same_at imp_is_up n.imps i i (Some t) None (ap imp_is_up (sym at)))
     new
     (same_at imp_is_up n.imps i j (Some t) None (ap imp_is_up (sym at)))
@@ -95,17 +95,17 @@ given_up_turn n f s number at awaited dead accepted is =
       unread = unread n f number none.1;
     } in
     let one : OneFollows Piece [] n.log f (GiveUp number ∷ []) (view n) (view m) (Alive n) (Alive m) = record {
-      here = makes_one (GiveUp number) (view n f) (view m f) (Alive n f) (Alive m f) needs (given_up_view n f s number at moved) (λ x later. inl (alive_less n m f x among later));
+      here = makes_one _ _ _ _ _ needs (given_up_view n f s number at moved) (λ x later. inl (alive_less n m f x among later));
       shown = refl;
       view = λ g other. turn_view n i s turn g at (moved.others g other);
       packets = λ g other x. alive_less n m g x among;
       unseen = λ g other. refl;
     } in
     record {
-      flows = one_follows n.hosts [] n.log f (GiveUp number ∷ []) (view n) (view m) (Alive n) (Alive m) tt one is.flows;
+      flows = one_follows _ [] n.log f _ _ _ _ _ tt one is.flows;
       imps = λ k. at_set IsAt n.imps i k (Some turn.state) None (is.imps k) (give_up_imp i s f accepted (subst (IsAt i) at (is.imps i)));
       formats = formats_less n m among is.formats;
-      answers = subst (All (λ (q : Message). IsPacket (answer_packet kind.Rfnm q.flow q.number))) (sym (held_messages n.imps i s turn.state at (given_queue s.hosts f.source.host (given (host_at s f.source.host) (record { kind = answer.Incomplete; flow = f })) refl))) is.answers;
+      answers = subst (All (λ (q : Message). IsPacket (answer_packet kind.Rfnm q.flow q.number))) (sym (held_messages n.imps i s _ at (given_queue s.hosts f.source.host (given (host_at s f.source.host) (record { kind = answer.Incomplete; flow = f })) refl))) is.answers;
       askable = λ g. elim (cases_Bool (same_flow g f)) [
         | inl same ↦ subst (Askable m) (sym (same_flow-true g f same)) (moved_askable n m f (GiveUp number ∷ []) (given_up_view n f s number at moved) refl is)
         | inr other ↦ same_askable n m g (turn_view n i s turn g at (moved.others g other)) is
@@ -117,8 +117,8 @@ give_up_sound n f accepted is =
     let i : ℕ = f.source.imp in
     let last : Option CarrierFault = at_up (imp_at n.imps i) (λ s. give_up_refusal s f) in
     let alive : Bool = give_up_alive n f (outstanding_at (imp_at n.imps i) f) in
-    let there : (not (is_host n.hosts f.source) ≡ false) × (first_of alive fault.StillAlive last ≡ None) = guard (not (is_host n.hosts f.source)) fault.NoSuch (first_of alive fault.StillAlive last) accepted in
-    let dead : (alive ≡ false) × (last ≡ None) = guard alive fault.StillAlive last there.1 in
+    let there : (not (is_host n.hosts f.source) ≡ false) × (first_of alive fault.StillAlive last ≡ None) = guard _ _ _ accepted in
+    let dead : (alive ≡ false) × (last ≡ None) = guard alive _ last there.1 in
     by (imp_at n.imps i) refl dead.0 dead.1
   where
     named : (s : State) → imp_at n.imps f.source.imp ≡ Some s → give_up_refusal s f ≡ None → (o : Option ℕ) → outstanding s f ≡ o → is_none o ≡ false → give_up_alive n f o ≡ false → IsSound (with_turn f.source.imp (give_up s f) n)
@@ -128,7 +128,7 @@ give_up_sound n f accepted is =
     by : (o : Option State) → imp_at n.imps f.source.imp ≡ o → give_up_alive n f (outstanding_at o f) ≡ false → at_up o (λ s. give_up_refusal s f) ≡ None → IsSound (at_imp o f.source.imp (λ s. give_up s f) n)
     by None at dead own = absurd (cc)
     by (Some s) at dead own =
-        let last : Option CarrierFault = first_of (is_none (outstanding s f)) fault.NotOutstanding None in
-        let host : (not (is_own s f.source) ≡ false) × (last ≡ None) = guard (not (is_own s f.source)) fault.NoSuch last own in
-        let some : (is_none (outstanding s f) ≡ false) × (let rest : Option CarrierFault = None in rest ≡ None) = guard (is_none (outstanding s f)) fault.NotOutstanding None host.1 in
+        let last : Option CarrierFault = first_of _ _ None in
+        let host : (not (is_own s f.source) ≡ false) × (last ≡ None) = guard _ _ last own in
+        let some : (is_none (outstanding s f) ≡ false) × (let rest : Option CarrierFault = None in rest ≡ None) = guard _ _ None host.1 in
         named s at own (outstanding s f) refl some.0 dead

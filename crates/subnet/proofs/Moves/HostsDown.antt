@@ -1,6 +1,7 @@
 -- A host goes down: so do the sources and the destinations of all its flows. The messages that waited for it give Dead: as
 -- packets to other IMPs, and at once to the hosts of its own.
-use Rattle.subnet.proofs.Common.{slice_set, flat_map, cases_Bool, All-nil, All-cons, All-head, All-tail, All-append, All-weaker, All-contains, All-contains_itself, Contains-append_right, Contains-append_cases, same_flow, Host, same_host, is_host, Box, box_of, Flow, CarrierFault, Crossing, release_in, kept_in, fate_in, Release, PacketFields, IsPacket, flow_of, View, Packet, Queued, Kind, Follows, AllFollow, passed_over, Invariant, Message, answer_packet, freed, fated, stored, outstanding, IsImp, Sender, Receiver, sender, receiver, messages_of, ended_with, fated_with, message_returned, all_returned, stopped, host_down, host_down_refusal, is_from_here, reply_has_room, Net, imp_at, with_turn, packets, at_imp, at_up, at_host_refusal, logging, host_stopped, OnlyNew, made_at, IsAt, IsSound}
+use Rattle.subnet.proofs.Common.{slice_set, flat_map, cases_Bool, All-nil, All-cons, All-head, All-tail, All-append, All-weaker, All-contains, All-contains_itself, Contains-append_right, Contains-append_cases, same_flow, Host, same_host, is_host, Box, box_of, Flow, CarrierFault, Crossing, release_in, Release, PacketFields, IsPacket, flow_of, View, Packet, Queued, Kind, Follows, AllFollow, passed_over, Invariant, Message, answer_packet, freed, fated, stored, outstanding, IsImp, Sender, Receiver, sender, receiver, messages_of, ended_with, fated_with, message_returned, all_returned, stopped, host_down, host_down_refusal, is_from_here, Net, imp_at, with_turn, packets, at_imp, at_up, at_host_refusal, logging, host_stopped, OnlyNew, made_at, IsAt, IsSound}
+use Rattle.imp_node.specs.Taking.{reply_has_room}
 use Rattle.std.proofs.Common.{◌≡◌, ℕ, Bool, true, false, not, List, [], ◌∷◌, ◌++◌, map, Option, Some, None, refl, ap, sym, subst, ◌∙◌, ◌==◌, ◌&&◌, if◌then◌else◌, cond, ◌⊎◌, inl, inr, eqb-true, All, Contains}
 use Rattle.std.specs.FinMap as finite
 use Rattle.interface.specs.declared.carrier.CarrierFault.TheVariants as fault
@@ -9,7 +10,7 @@ use Rattle.interface.specs.declared.crossing.Crossing.TheVariants as crossing
 use Rattle.interface.proofs.lemmas.{and_true, guard, not_false, same_flow-refl, same_flow-true, same_host-refl, same_host-true}
 use Rattle.link_table.specs.declared.destination.Fate.TheVariants as fate
 use Rattle.packetiser.specs.declared.packet.PacketKind.TheVariants as kind
-use Rattle.flow_law.specs.Moves.{Move, IsDeadOf, with_fates, view_moved, after_all, shown_by}
+use Rattle.flow_law.specs.Moves.{Move, IsDeadOf, view_moved, after_all, shown_by}
 use Rattle.flow_law.specs.Local as local
 use Rattle.flow_law.specs.Local.{stopped_host, stopped_host_queued}
 use Rattle.flow_law.proofs.lemmas.{down_shown, queued_alone, queued_awaited}
@@ -32,7 +33,7 @@ use Rattle.subnet.proofs.Calls.Outstanding.{down_same}
 -- ---- messages are given back, one after another
 
 returned_answers : (m : Message) (s : State) → All Answerable (contents.messages s) → All Answerable (contents.messages (message_returned m s))
-returned_answers m s all = at (reply_has_room t m) (is_from_here s m) where
+returned_answers m s all = at (reply_has_room t m) _ where
   t : State
   t = fated m.flow m.number fate.Dead s
 
@@ -73,7 +74,7 @@ told_dead m s here awaited =
     let r : Release = release_in m.number (finite.get s.sources m.flow) in
     (returned_moves m s).sender
     ∙ ap (λ (b : Bool). sender_told b r answer.Dead (sender s m.flow)) here
-    ∙ ap (λ (x : Release). sender_told true x answer.Dead (sender s m.flow)) (freed_with (finite.get s.sources m.flow) m.number awaited)
+    ∙ ap (λ (x : Release). sender_told true x answer.Dead (sender s m.flow)) (freed_with _ _ awaited)
 
 -- where one is, and is outstanding at a source of this IMP, that gets Dead
 one_of_it : (ms : List Message) (s : State) (f : Flow) (m : Message) → messages_of f ms ≡ m ∷ [] → (f.source.imp == number s) ≡ true → outstanding s f ≡ Some m.number
@@ -86,7 +87,7 @@ one_of_it (x ∷ ms) s f m one here awaited = elim (cases_Bool (same_flow f x.fl
       let flow : f ≡ x.flow = same_flow-true f x.flow same in
       let F : Flow → Type 0 = λ k. (k.source.imp == number s) ≡ true → outstanding s k ≡ Some x.number → sender (message_returned x s) k ≡ ended_with answer.Dead (sender s k) in
       let told : sender (message_returned x s) f ≡ ended_with answer.Dead (sender s f) = subst F (sym flow) (told_dead x s) here (awaited ∙ ap (λ (y : Message). Some y.number) (sym first)) in
-      none_of_it ms (message_returned x s) f rest ∙ told)
+      none_of_it ms _ f rest ∙ told)
   | inr other ↦ (let rest : messages_of f ms ≡ m ∷ [] = rw other at one in
       let still : sender (message_returned x s) f ≡ sender s f = ((returned_moves x s).others f other).sender in
       one_of_it ms (message_returned x s) f m rest (ap (λ (k : ℕ). f.source.imp == k) (returned_number x s) ∙ here) (ap (λ (y : Sender). y.outstanding) still ∙ awaited)
@@ -116,7 +117,7 @@ all_of_it h s f imp = by (f.destination.host == h.host) refl where
 
   by : (b : Bool) → (f.destination.host == h.host) ≡ b → messages_of f (host_at s h.host).queue ≡ cond b (receiver s f).queue []
   by true same = ap (λ (k : ℕ). messages_of f (host_at s k).queue) (sym (eqb-true f.destination.host h.host same))
-  by false other = not_for h f (host_at s h.host).queue (imp.queues h.host) (ap (λ (b : Bool). f.destination.imp == h.imp && b) other ∙ nothing (f.destination.imp == h.imp))
+  by false other = not_for h f _ (imp.queues h.host) (ap (λ (b : Bool). f.destination.imp == h.imp && b) other ∙ nothing _)
 
 -- a message of the flow is in its queue
 abbrev IsQueued : Flow → List Message → Message → Type 0
@@ -172,7 +173,7 @@ shown : (f : Flow) (h : Host) (s : State) (v : View) (log : List Crossing) (o : 
     → passed_over f (crossing.Down h ∷ []) log ≡ shown_by (moves_by (same_host f.source h) (same_host f.destination h) o) v
 shown f h s v log None is = down_shown f h log v
 shown f h s v log (Some m) is =
-    let own : IsOwn (same_host f.destination h && f.source.imp == h.imp) (messages_of f (host_at s h.host).queue) m = one_waits (same_host f.destination h && f.source.imp == h.imp) (messages_of f (host_at s h.host).queue) m is in
+    let own : IsOwn (same_host f.destination h && f.source.imp == h.imp) (messages_of f (host_at s h.host).queue) m = one_waits _ _ m is in
     let here : same_host f.destination h ≡ true × (f.source.imp == h.imp) ≡ true = and_true (same_host f.destination h) (f.source.imp == h.imp) own.own in
     down_shown f h log v ∙ ap (λ (b : Bool). shown_by (stopped_host (same_host f.source h) b) v) here.0
 
@@ -189,7 +190,7 @@ gone_is false r ms is = rw is refl
 stopped_view : (u : Bool) (s : Sender) (w : Bool) (r : Receiver) (box : Box) → view_of u s w (gone_down true r) box ≡ view_moved Move.StopDestination (view_of u s w r box)
 stopped_view u s w r box =
     let down : Receiver = record r { destination = false; queue = [] } in
-    view_fated u s w down box (ended_all fate.Dead r.queue r.kept) (with_fates (kept_in r.kept) (map queued_of r.queue) fate.Dead (fate_in r.kept)) (kept_all fate.Dead r.queue r.kept) (fate_all fate.Dead r.queue r.kept)
+    view_fated u s w down box _ _ (kept_all fate.Dead r.queue r.kept) (fate_all fate.Dead r.queue r.kept)
 
 quiet_view : (a b u w : Bool) (s : Sender) (r : Receiver) (box : Box) → view_of u (source_down a s) w (gone_down b r) box ≡ after_all (stopped_host a b) (view_of u s w r box)
 quiet_view true true u w s r box = stopped_view u (source_down true s) w r box
@@ -222,15 +223,15 @@ gone_view n h s f from stop source =
     let c : Bool = f.destination.host == h.host in
     let q : List Message = (host_at s h.host).queue in
     let becomes : receiver t f ≡ gone_down c (receiver s f) =
-    all_receiver q (stopped s h.host) f ∙ ap (with_dead (messages_of f q)) (stopped_becomes s h.host f).receiver ∙ gone_is c (receiver s f) (messages_of f q) (all_of_it h s f stop.imp) in
+    all_receiver q _ f ∙ ap (with_dead (messages_of f q)) (stopped_becomes s h.host f).receiver ∙ gone_is c _ _ (all_of_it h s f stop.imp) in
     view_parts
-    (imp_is_up (imp_at imps i)) (imp_is_up (imp_at n.imps i)) (sender_at (imp_at imps i) f) from
-    (imp_is_up (imp_at imps j)) (imp_is_up (imp_at n.imps j)) (receiver_at (imp_at imps j) f) (gone_down (same_host f.destination h) (receiver_at (imp_at n.imps j) f))
-    (box_of f n.log)
+    _ _ _ from
+    _ _ _ _
+    _
     (same_at imp_is_up n.imps h.imp i (Some t) None (ap imp_is_up (sym stop.at)))
     source
     (same_at imp_is_up n.imps h.imp j (Some t) None (ap imp_is_up (sym stop.at)))
-    (at_end (λ (o : Option State). receiver_at o f) gone_down n.imps h.imp j (Some t) c (λ r. refl) (set_here n.imps h.imp (Some t) s stop.at)
+    (at_end (λ (o : Option State). receiver_at o f) gone_down n.imps h.imp j (Some t) c (λ r. refl) (set_here n.imps h.imp _ s stop.at)
     (becomes ∙ ap (λ (o : Option State). gone_down c (receiver_at o f)) (sym stop.at)))
 
 -- where none of its messages waits at this IMP for a source there
@@ -239,7 +240,7 @@ quiet_source : (n : Net) (h : Host) (s : State) (f : Flow) → Stopping n h s �
 quiet_source n h s f stop none =
     let t : State = (host_down s h.host).state in
     let c : Bool = f.source.host == h.host in
-    at_end_if (λ (o : Option State). sender_at o f) source_down n.imps h.imp f.source.imp (Some t) c (λ x. refl) (set_here n.imps h.imp (Some t) s stop.at)
+    at_end_if (λ (o : Option State). sender_at o f) source_down n.imps h.imp _ (Some t) c (λ x. refl) (set_here n.imps h.imp _ s stop.at)
     (λ here. none_of_it (host_at s h.host).queue (stopped s h.host) f (none here) ∙ (stopped_becomes s h.host f).sender ∙ ap (λ (o : Option State). source_down c (sender_at o f)) (sym stop.at))
 
 -- where one does
@@ -253,7 +254,7 @@ told_source n h s f m stop here one awaited =
     let mid : State = stopped s h.host in
     let down : sender mid f ≡ source_down c (sender s f) = (stopped_becomes s h.host f).sender in
     let told : sender (all_returned (host_at s h.host).queue mid) f ≡ ended_with answer.Dead (sender mid f) =
-    one_of_it (host_at s h.host).queue mid f m one (ap (λ (k : ℕ). f.source.imp == k) stop.imp.own ∙ here) (ap (λ (x : Sender). x.outstanding) down ∙ down_same c (sender s f) ∙ awaited) in
+    one_of_it _ mid f m one (ap (λ (k : ℕ). f.source.imp == k) stop.imp.own ∙ here) (ap (λ (x : Sender). x.outstanding) down ∙ down_same c _ ∙ awaited) in
     source_changed (λ x. ended_with answer.Dead (source_down a x)) n.imps h.imp s t f stop.at (eqb-true f.source.imp h.imp here)
     (told ∙ ap (ended_with answer.Dead) down ∙ ap (λ (b : Bool). ended_with answer.Dead (source_down b (sender s f))) same)
 
@@ -261,17 +262,17 @@ told_source n h s f m stop here one awaited =
 
 was_source : (n : Net) (h : Host) (s : State) (f : Flow) → Stopping n h s → same_host f.source h ≡ true → (view n f).source ≡ true
 was_source n h s f stop here =
-    let source : f.source ≡ h = same_host-true f.source h here in
+    let source : f.source ≡ h = same_host-true _ h here in
     ap (λ (x : Host). (sender_at (imp_at n.imps x.imp) f).source) source ∙ ap (λ (o : Option State). (sender_at o f).source) stop.at ∙ ap (λ (x : Host). is_up s x.host) source ∙ stop.up
 
 was_destination : (n : Net) (h : Host) (s : State) (f : Flow) → Stopping n h s → same_host f.destination h ≡ true → (view n f).destination ≡ true
 was_destination n h s f stop here =
-    let destination : f.destination ≡ h = same_host-true f.destination h here in
+    let destination : f.destination ≡ h = same_host-true _ h here in
     ap (λ (x : Host). (receiver_at (imp_at n.imps x.imp) f).destination) destination ∙ ap (λ (o : Option State). (receiver_at o f).destination) stop.at ∙ ap (λ (x : Host). is_up s x.host) destination ∙ stop.up
 
 queue_is : (n : Net) (h : Host) (s : State) (f : Flow) → Stopping n h s → same_host f.destination h ≡ true → (view n f).queue ≡ map queued_of (messages_of f (host_at s h.host).queue)
 queue_is n h s f stop here =
-    let destination : f.destination ≡ h = same_host-true f.destination h here in
+    let destination : f.destination ≡ h = same_host-true _ h here in
     ap (λ (x : Host). map queued_of (receiver_at (imp_at n.imps x.imp) f).queue) destination
     ∙ ap (λ (o : Option State). map queued_of (receiver_at o f).queue) stop.at
     ∙ ap (λ (x : Host). map queued_of (messages_of f (host_at s x.host).queue)) destination
@@ -329,7 +330,7 @@ dead_or_old n h s f x stop only a =
     let itself : All (IsDeadFor q) made = dead_all (IsDeadFor q) s q (All-weaker (Contains q) (λ (y : Message). IsDeadFor q (answer_packet kind.Dead y.flow y.number)) (λ y there. record { message = y; waited = there; is = refl }) q (All-contains_itself q)) in
     elim (Contains-append_cases (packets n) made a.fields (All-contains (Contains (packets n ++ made)) (packets m) a.fields only a.there)) [
       | inl there ↦ inl (record { fields = a.fields; there = there; flow = a.flow; packet = a.packet })
-      | inr there ↦ inr (dead_for_it n h s f x a.fields stop a.flow a.packet (All-contains (IsDeadFor q) made a.fields itself there))
+      | inr there ↦ inr (dead_for_it n h s f x _ stop a.flow a.packet (All-contains (IsDeadFor q) made a.fields itself there))
     ]
 
 -- ---- each flow
@@ -379,31 +380,31 @@ flow_goes n h s f stop only law None is =
     let q : List Message = (host_at s h.host).queue in
     let none : (f.source.imp == h.imp) ≡ true → messages_of f q ≡ [] = λ here. elim (cases_Bool (same_host f.destination h)) [
       | inl ours ↦ none_waits (same_host f.destination h) (f.source.imp == h.imp) (messages_of f (host_at s h.host).queue) is ours here
-      | inr other ↦ not_for h f (host_at s h.host).queue (stop.imp.queues h.host) other
+      | inr other ↦ not_for h f _ (stop.imp.queues h.host) other
     ] in
     let from : Sender = source_down a (sender_at (imp_at n.imps f.source.imp) f) in
-    quiet_follows a b (view n f) (view (after_stop n h s) f) (Alive n f) (Alive (after_stop n h s) f) (was_source n h s f stop) (was_destination n h s f stop)
-    (gone_view n h s f from stop (quiet_source n h s f stop none) ∙ quiet_view a b (imp_is_up (imp_at n.imps f.source.imp)) (imp_is_up (imp_at n.imps f.destination.imp)) (sender_at (imp_at n.imps f.source.imp) f) (receiver_at (imp_at n.imps f.destination.imp) f) (box_of f n.log))
+    quiet_follows a b _ _ _ _ (was_source n h s f stop) (was_destination n h s f stop)
+    (gone_view n h s f from stop (quiet_source n h s f stop none) ∙ quiet_view a b _ _ _ _ _)
     (λ x. dead_or_old n h s f x stop only)
 flow_goes n h s f stop only law (Some m) is =
     let a : Bool = same_host f.source h in
     let q : List Message = (host_at s h.host).queue in
-    let own : IsOwn (same_host f.destination h && f.source.imp == h.imp) (messages_of f q) m = one_waits (same_host f.destination h && f.source.imp == h.imp) (messages_of f q) m is in
+    let own : IsOwn (same_host f.destination h && f.source.imp == h.imp) (messages_of f q) m = one_waits _ _ m is in
     let both : same_host f.destination h ≡ true × (f.source.imp == h.imp) ≡ true = and_true (same_host f.destination h) (f.source.imp == h.imp) own.own in
     let queue : (view n f).queue ≡ queued_of m ∷ map queued_of own.others = queue_is n h s f stop both.0 ∙ ap (map queued_of) own.list in
-    let alone : own.others ≡ [] = no_others own.others (queued_alone (view n f) (Alive n f) (queued_of m) (map queued_of own.others) law queue) in
+    let alone : own.others ≡ [] = no_others _ (queued_alone _ _ _ _ law queue) in
     let one : messages_of f q ≡ m ∷ [] = own.list ∙ ap (λ (ms : List Message). m ∷ ms) alone in
     let at : imp_at n.imps f.source.imp ≡ Some s = ap (imp_at n.imps) (eqb-true f.source.imp h.imp both.1) ∙ stop.at in
-    let awaited : (view n f).outstanding ≡ Some m.number = queued_awaited (view n f) (Alive n f) (queued_of m) (map queued_of own.others) law (ap imp_is_up at) queue in
+    let awaited : (view n f).outstanding ≡ Some m.number = queued_awaited _ _ _ _ law (ap imp_is_up at) queue in
     let here : outstanding s f ≡ Some m.number = sym (ap (λ (o : Option State). (sender_at o f).outstanding) at) ∙ awaited in
     let from : Sender = ended_with answer.Dead (source_down a (sender_at (imp_at n.imps f.source.imp) f)) in
     let qs : List Queued = queued_of m ∷ map queued_of own.others in
     let first : Contains qs (queued_of m) = All-head (Contains qs) (queued_of m) (map queued_of own.others) (All-contains_itself qs) in
-    told_follows a (queued_of m) (view n f) (view (after_stop n h s) f) (Alive n f) (Alive (after_stop n h s) f) (was_source n h s f stop) (was_destination n h s f stop both.0)
+    told_follows a _ _ _ _ _ (was_source n h s f stop) (was_destination n h s f stop both.0)
     (subst (λ (ms : List Queued). Contains ms (queued_of m)) (sym queue) first) awaited
     (gone_view n h s f from stop (told_source n h s f m stop both.1 one here)
     ∙ ap (λ (b : Bool). view_of (imp_is_up (imp_at n.imps f.source.imp)) from (imp_is_up (imp_at n.imps f.destination.imp)) (gone_down b (receiver_at (imp_at n.imps f.destination.imp) f)) (box_of f n.log)) both.0
-    ∙ told_view a (imp_is_up (imp_at n.imps f.source.imp)) (imp_is_up (imp_at n.imps f.destination.imp)) (queued_of m) (sender_at (imp_at n.imps f.source.imp) f) (receiver_at (imp_at n.imps f.destination.imp) f) (box_of f n.log))
+    ∙ told_view a _ _ (queued_of m) _ _ _)
     (λ x l. dead x (dead_or_old n h s f x stop only l))
   where
     dead : (x : Packet) → Alive n f x ⊎ ((same_host f.destination h ≡ true) × IsDeadOf (view n f).queue x) → Alive n f x ⊎ IsDeadOf (view n f).queue x
@@ -428,7 +429,7 @@ gone n h s stop is =
     let made : List PacketFields = host_down_makes s h.host in
     let only : OnlyNew n made m = subst (λ (o : Option State). OnlyNew n (made_at o (λ t. host_down_makes t h.host)) (logging (crossing.Down h ∷ []) (at_imp o h.imp (λ (t : State). host_down t h.host) n))) stop.at (stop_only n h) in
     let held : All Answerable (contents.messages s) = answerable n h.imp s stop.at is in
-    let dead : All IsPacket made = dead_all IsPacket s q (All-weaker Answerable (λ (x : Message). IsPacket (answer_packet kind.Dead x.flow x.number)) dead_format q (at_host_all Answerable s.hosts h.host held)) in
+    let dead : All IsPacket made = dead_all IsPacket s q (All-weaker Answerable (λ (x : Message). IsPacket (answer_packet kind.Dead x.flow x.number)) dead_format q (at_host_all Answerable _ h.host held)) in
     let all : All IsPacket (packets n ++ made) = All-append IsPacket (packets n) made is.formats dead in
     let follow : AllFollow Piece n.hosts (crossing.Down h ∷ []) n.log (moves s h) (view n) (view m) (Alive n) (Alive m) = record {
       follows = λ f. flow_goes n h s f stop only (is.flows.flows f).clauses (waiting s h f) refl;
@@ -438,20 +439,20 @@ gone n h s stop is =
     all_moved n m.imps m.lines (crossing.Down h ∷ []) (moves s h) follow
     (λ k. at_set IsAt n.imps h.imp k (Some turn.state) None (is.imps k) (host_down_imp h.imp s h.host stop.imp))
     (All-weaker (Contains (packets n ++ made)) IsPacket (λ p there. All-contains IsPacket (packets n ++ made) p all there) (packets m) only)
-    (set_messages Answerable n.imps h.imp turn.state is.answers (all_answers q (stopped s h.host) (set_queue Answerable s.hosts h.host no_host held (All-nil Answerable))))
+    (set_messages Answerable n.imps h.imp _ is.answers (all_answers q _ (set_queue Answerable _ h.host no_host held (All-nil Answerable))))
     (λ f. none_begins (same_host f.source h) (same_host f.destination h) (waiting s h f))
     is
 
 pub host_down_sound : (n : Net) (h : Host) → at_host_refusal n h host_down_refusal ≡ None → IsSound n → IsSound (host_stopped n h)
 host_down_sound n h allowed is =
     let last : Option CarrierFault = at_up (imp_at n.imps h.imp) (λ s. host_down_refusal s h.host) in
-    let known : (not (is_host n.hosts h) ≡ false) × (last ≡ None) = guard (not (is_host n.hosts h)) fault.NoSuch last allowed in
+    let known : (not (is_host n.hosts h) ≡ false) × (last ≡ None) = guard _ _ last allowed in
     by (imp_at n.imps h.imp) refl known.1
   where
     by : (o : Option State) → imp_at n.imps h.imp ≡ o → at_up o (λ s. host_down_refusal s h.host) ≡ None → IsSound (logging (crossing.Down h ∷ []) (at_imp o h.imp (λ s. host_down s h.host) n))
     by None at own = absurd (cc)
     by (Some s) at own =
         let second : Option CarrierFault = if not (is_up s h.host) then Some fault.IsDown else None in
-        let there : (not (is_there s h.host) ≡ false) × (second ≡ None) = guard (not (is_there s h.host)) fault.NoSuch second own in
-        let up : (not (is_up s h.host) ≡ false) × (let rest : Option CarrierFault = None in rest ≡ None) = guard (not (is_up s h.host)) fault.IsDown None there.1 in
-        gone n h s (record { at = at; up = not_false (is_up s h.host) up.0; imp = subst (IsAt h.imp) at (is.imps h.imp) }) is
+        let there : (not (is_there s h.host) ≡ false) × (second ≡ None) = guard _ _ second own in
+        let up : (not (is_up s h.host) ≡ false) × (let rest : Option CarrierFault = None in rest ≡ None) = guard _ _ None there.1 in
+        gone n h s (record { at = at; up = not_false _ up.0; imp = subst (IsAt h.imp) at (is.imps h.imp) }) is

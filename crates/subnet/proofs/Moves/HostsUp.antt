@@ -1,5 +1,6 @@
 -- A host comes up: so do the sources and the destinations of all its flows.
-use Rattle.subnet.proofs.Common.{slice_set, nat_tests, Host, same_host, is_host, Box, box_of, Flow, CarrierFault, guard, not_false, same_host-true, has_outstanding, View, Packet, Follows, AllFollow, IsImp, Sender, Receiver, sender, receiver, own_host, host_up, host_up_refusal, Net, imp_at, with_turn, messages_at_imp, at_imp, at_up, at_host_refusal, logging, host_started, NothingNew, IsAt, IsSound}
+use Rattle.subnet.proofs.Common.{slice_set, nat_tests, Host, same_host, is_host, Box, box_of, Flow, CarrierFault, guard, not_false, same_host-true, has_outstanding, View, Packet, Follows, AllFollow, IsImp, Sender, Receiver, sender, receiver, own_host, host_up_refusal, Net, imp_at, with_turn, messages_at_imp, at_imp, at_up, at_host_refusal, logging, host_started, NothingNew, IsAt, IsSound}
+use Rattle.imp_node.specs.Stopping.{host_up}
 use Rattle.std.proofs.Common.{◌≡◌, ℕ, ◌<◌, Bool, true, false, not, List, [], ◌∷◌, length, Option, Some, None, refl, ap, sym, subst, ◌∙◌, ◌==◌, if◌then◌else◌, inl, arith, All}
 use Rattle.interface.specs.declared.carrier.CarrierFault.TheVariants as fault
 use Rattle.interface.specs.declared.crossing.Crossing.TheVariants as crossing
@@ -7,7 +8,7 @@ use Rattle.link_table.proofs.lemmas.{outstanding_none}
 use Rattle.flow_law.specs.Moves.{Move, CanStartSource, after_all}
 use Rattle.flow_law.specs.Local.{started_host}
 use Rattle.flow_law.proofs.lemmas.{makes_one, stays, up_shown}
-use Rattle.imp_node.specs.State.{State, HostState, ImpTurn, host_at, is_up, is_there}
+use Rattle.imp_node.specs.State.{State, ImpTurn, is_up, is_there}
 use Rattle.imp_node.specs.Moves.{Becomes, source_up, destination_up}
 use Rattle.imp_node.proofs.lemmas.{at_set, host_up_becomes, host_up_imp, same_at}
 use Rattle.subnet.specs.Flows.{Piece, Alive, imp_is_up, sender_at, receiver_at, view_of, view}
@@ -50,19 +51,19 @@ record Startable (n : Net) (h : Host) (s : State) : Type 0 where
 
 can_start : (n : Net) (h : Host) (s : State) (f : Flow) → Startable n h s → IsImp h.imp s → same_host f.source h ≡ true → CanStartSource (view n f)
 can_start n h s f can imp here =
-    let source : f.source ≡ h = same_host-true f.source h here in
+    let source : f.source ≡ h = same_host-true _ h here in
     let at : imp_at n.imps f.source.imp ≡ Some s = ap (λ (x : Host). imp_at n.imps x.imp) source ∙ can.at in
     let own : own_host s h.host ≡ h = ap (λ (i : ℕ). let x : Host = record { imp = i; host = h.host } in x) imp.own in
     let ours : same_host f.source (own_host s h.host) ≡ true = ap (same_host f.source) own ∙ here in
     record {
       from_up = ap imp_is_up at;
       down = ap (λ (o : Option State). (sender_at o f).source) at ∙ ap (λ (x : Host). is_up s x.host) source ∙ can.down;
-      idle = ap (λ (o : Option State). (sender_at o f).outstanding) at ∙ outstanding_none s.sources (own_host s h.host) can.settled f ours;
+      idle = ap (λ (o : Option State). (sender_at o f).outstanding) at ∙ outstanding_none _ _ can.settled f ours;
     }
 
 is_down : (n : Net) (h : Host) (s : State) (f : Flow) → Startable n h s → same_host f.destination h ≡ true → (view n f).destination ≡ false
 is_down n h s f can here =
-    let destination : f.destination ≡ h = same_host-true f.destination h here in
+    let destination : f.destination ≡ h = same_host-true _ h here in
     let at : imp_at n.imps f.destination.imp ≡ Some s = ap (λ (x : Host). imp_at n.imps x.imp) destination ∙ can.at in
     ap (λ (o : Option State). (receiver_at o f).destination) at ∙ ap (λ (x : Host). is_up s x.host) destination ∙ can.down
 
@@ -78,19 +79,19 @@ new_view n h s f there within =
     let a : Bool = f.source.host == h.host in
     let b : Bool = f.destination.host == h.host in
     let becomes : Becomes s t f (source_up a (sender s f)) (destination_up b (receiver s f)) = host_up_becomes s h.host f within in
-    let set : imp_at imps h.imp ≡ Some t = set_here n.imps h.imp (Some t) s there in
+    let set : imp_at imps h.imp ≡ Some t = set_here n.imps h.imp _ s there in
     let box : Box = if same_host f.source h then Box.Empty else box_of f n.log in
     view_parts
-    (imp_is_up (imp_at imps i)) (imp_is_up (imp_at n.imps i))
-    (sender_at (imp_at imps i) f) (source_up (same_host f.source h) (sender_at (imp_at n.imps i) f))
-    (imp_is_up (imp_at imps j)) (imp_is_up (imp_at n.imps j))
-    (receiver_at (imp_at imps j) f) (destination_up (same_host f.destination h) (receiver_at (imp_at n.imps j) f))
+    _ _
+    _ _
+    _ _
+    _ _
     box
     (same_at imp_is_up n.imps h.imp i (Some t) None (ap imp_is_up (sym there)))
-    (at_end (λ (o : Option State). sender_at o f) source_up n.imps h.imp i (Some t) a (λ x. refl) set (becomes.sender ∙ ap (λ (o : Option State). source_up a (sender_at o f)) (sym there)))
+    (at_end (λ (o : Option State). sender_at o f) source_up n.imps h.imp i _ a (λ x. refl) set (becomes.sender ∙ ap (λ (o : Option State). source_up a (sender_at o f)) (sym there)))
     (same_at imp_is_up n.imps h.imp j (Some t) None (ap imp_is_up (sym there)))
-    (at_end (λ (o : Option State). receiver_at o f) destination_up n.imps h.imp j (Some t) b (λ x. refl) set (becomes.receiver ∙ ap (λ (o : Option State). destination_up b (receiver_at o f)) (sym there)))
-    ∙ started_view (same_host f.source h) (same_host f.destination h) (imp_is_up (imp_at n.imps i)) (imp_is_up (imp_at n.imps j)) (sender_at (imp_at n.imps i) f) (receiver_at (imp_at n.imps j) f) (box_of f n.log)
+    (at_end (λ (o : Option State). receiver_at o f) destination_up n.imps h.imp j _ b (λ x. refl) set (becomes.receiver ∙ ap (λ (o : Option State). destination_up b (receiver_at o f)) (sym there)))
+    ∙ started_view _ _ _ _ _ _ _
 
 none_begins : (a b : Bool) → one_begins (started_host a b) ≡ false
 none_begins true true = refl
@@ -115,24 +116,24 @@ started n h s can is =
     all_moved n m.imps m.lines (crossing.Up h ∷ []) (moves h) follow
     (λ k. at_set IsAt n.imps h.imp k (Some turn.state) None (is.imps k) (host_up_imp h.imp s h.host imp))
     (formats_less n m among is.formats)
-    (subst (All Answerable) (sym (kept_messages n.imps h.imp (Some turn.state)
-    (given_queue s.hosts h.host (let x : HostState = record (host_at s h.host) { up = true } in x) refl ∙ ap messages_at_imp (sym there)))) is.answers)
+    (subst (All Answerable) (sym (kept_messages n.imps h.imp _
+    (given_queue _ h.host _ refl ∙ ap messages_at_imp (sym there)))) is.answers)
     (λ f. none_begins (same_host f.source h) (same_host f.destination h))
     is
 
 pub host_up_sound : (n : Net) (h : Host) → at_host_refusal n h host_up_refusal ≡ None → IsSound n → IsSound (host_started n h)
 host_up_sound n h allowed is =
     let last : Option CarrierFault = at_up (imp_at n.imps h.imp) (λ s. host_up_refusal s h.host) in
-    let known : (not (is_host n.hosts h) ≡ false) × (last ≡ None) = guard (not (is_host n.hosts h)) fault.NoSuch last allowed in
-    by (imp_at n.imps h.imp) refl (not_false (is_host n.hosts h) known.0) known.1
+    let known : (not (is_host n.hosts h) ≡ false) × (last ≡ None) = guard _ _ last allowed in
+    by (imp_at n.imps h.imp) refl (not_false _ known.0) known.1
   where
     by : (o : Option State) → imp_at n.imps h.imp ≡ o → is_host n.hosts h ≡ true → at_up o (λ s. host_up_refusal s h.host) ≡ None → IsSound (logging (crossing.Up h ∷ []) (at_imp o h.imp (λ s. host_up s h.host) n))
     by None at host own = absurd (cc)
     by (Some s) at host own =
         let third : Option CarrierFault = if has_outstanding (own_host s h.host) s.sources then Some fault.Unsettled else None in
         let second : Option CarrierFault = if is_up s h.host then Some fault.IsUp else third in
-        let there : (not (is_there s h.host) ≡ false) × (second ≡ None) = guard (not (is_there s h.host)) fault.NoSuch second own in
-        let down : (is_up s h.host ≡ false) × (third ≡ None) = guard (is_up s h.host) fault.IsUp third there.1 in
-        let settled : (has_outstanding (own_host s h.host) s.sources ≡ false) × (let rest : Option CarrierFault = None in rest ≡ None) = guard (has_outstanding (own_host s h.host) s.sources) fault.Unsettled None down.1 in
-        let within : is_there s h.host ≡ true = not_false (is_there s h.host) there.0 in
+        let there : (not (is_there s h.host) ≡ false) × (second ≡ None) = guard _ _ second own in
+        let down : (is_up s h.host ≡ false) × (third ≡ None) = guard _ _ third there.1 in
+        let settled : (has_outstanding (own_host s h.host) s.sources ≡ false) × (let rest : Option CarrierFault = None in rest ≡ None) = guard _ _ None down.1 in
+        let within : is_there s h.host ≡ true = not_false _ there.0 in
         started n h s (record { at = at; host = host; there = grind (arith, nat_tests, within); down = down.0; settled = settled.0 }) is

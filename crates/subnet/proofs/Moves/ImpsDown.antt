@@ -83,9 +83,9 @@ destination_after false false v = refl
 
 follows : (a b : Bool) (v : View) (alive : Packet → Type 0) → (a ≡ true → v.source ≡ true) → (b ≡ true → v.destination ≡ true) → Follows Piece (stopped_host a b) v (after_all (stopped_host a b) v) alive alive
 follows true true v alive source destination = record { needs = (destination refl, (source refl, tt)); view = refl; packets = λ x l. inl (inl l) }
-follows true false v alive source destination = makes_one Move.StopSource v (after_all (stopped_host true false) v) alive alive (source refl) refl (λ x l. inl l)
-follows false true v alive source destination = makes_one Move.StopDestination v (after_all (stopped_host false true) v) alive alive (destination refl) refl (λ x l. inl l)
-follows false false v alive source destination = stays v (after_all (stopped_host false false) v) alive alive refl (λ x l. l)
+follows true false v alive source destination = makes_one Move.StopSource v _ alive alive (source refl) refl (λ x l. inl l)
+follows false true v alive source destination = makes_one Move.StopDestination v _ alive alive (destination refl) refl (λ x l. inl l)
+follows false false v alive source destination = stays v _ alive alive refl (λ x l. l)
 
 abbrev host_of : ℕ → ℕ → Host
 host_of i k = record { imp = i; host = k }
@@ -109,12 +109,12 @@ record Ended (hosts : List Host) (log : List Crossing) (i : ℕ) (old : Flow →
 
 -- whether host `x` is up after host `k` went down
 passed_by : (here now : Bool) (k x : ℕ) (h : HostState) (hosts : List HostState) → (x == k) ≡ here → now ≡ cond here h.up (up_from (k + 1) hosts x) → cond here false now ≡ up_from (k + 1) hosts x
-passed_by true now k x h hosts same is = let equal : x ≡ k = eqb-true x k same in sym (below (k + 1) x hosts (omega (arith, equal)))
+passed_by true now k x h hosts same is = let equal : x ≡ k = eqb-true x k same in sym (below _ x hosts (omega (arith, equal)))
 passed_by false now k x h hosts other is = is
 
 -- the same where the host was down before
 kept_by : (here now : Bool) (k x : ℕ) (h : HostState) (hosts : List HostState) → (x == k) ≡ here → h.up ≡ false → now ≡ cond here h.up (up_from (k + 1) hosts x) → now ≡ up_from (k + 1) hosts x
-kept_by true now k x h hosts same down is = let equal : x ≡ k = eqb-true x k same in is ∙ down ∙ sym (below (k + 1) x hosts (omega (arith, equal)))
+kept_by true now k x h hosts same down is = let equal : x ≡ k = eqb-true x k same in is ∙ down ∙ sym (below _ x hosts (omega (arith, equal)))
 kept_by false now k x h hosts other down is = is
 
 next_down : (i k : ℕ) (h : HostState) (hosts : List HostState) (old v : Flow → View) → Going i k (h ∷ hosts) old v → Going i (k + 1) hosts old (down_view (host_of i k) v)
@@ -122,11 +122,11 @@ next_down i k h hosts old v going = record {
   source = λ f here.
       source_after (same_host f.source (host_of i k)) (same_host f.destination (host_of i k)) (v f)
       ∙ ap (λ (b : Bool). cond (b && (f.source.host == k)) false (v f).source) here
-      ∙ passed_by (f.source.host == k) (v f).source k f.source.host h hosts refl (going.source f here);
+      ∙ passed_by _ _ k _ h hosts refl (going.source f here);
   destination = λ f here.
       destination_after (same_host f.source (host_of i k)) (same_host f.destination (host_of i k)) (v f)
       ∙ ap (λ (b : Bool). cond (b && (f.destination.host == k)) false (v f).destination) here
-      ∙ passed_by (f.destination.host == k) (v f).destination k f.destination.host h hosts refl (going.destination f here);
+      ∙ passed_by _ _ k _ h hosts refl (going.destination f here);
   same = λ f. stopped_first (f.source.imp == i) (f.destination.imp == i) (f.source.host == k) (f.destination.host == k) (v f) ∙ going.same f;
 }
 
@@ -146,11 +146,11 @@ one_down : (hosts : List Host) (log : List Crossing) (i k : ℕ) (h : HostState)
     → h.up ≡ true → Going i k (h ∷ others) old v → AllSound Piece hosts log v alive → AllSound Piece hosts (crossing.Down (host_of i k) ∷ log) (down_view (host_of i k) v) alive
 one_down hosts log i k h others old v alive up going sound =
     let down : Host = host_of i k in
-    all_follow hosts (crossing.Down down ∷ []) log (λ f. stopped_host (same_host f.source down) (same_host f.destination down)) v (down_view down v) alive alive (record {
+    all_follow hosts (crossing.Down down ∷ []) log _ v _ alive alive (record {
       follows = λ f.
           follows (same_host f.source (host_of i k)) (same_host f.destination (host_of i k)) (v f) (alive f)
-          (was_up i k h others f.source (v f).source up (going.source f))
-          (was_up i k h others f.destination (v f).destination up (going.destination f));
+          (was_up i k h others _ _ up (going.source f))
+          (was_up i k h others _ _ up (going.destination f));
       shown = λ f. down_shown f down log (v f);
       ups = tt;
     }) sound
@@ -221,22 +221,22 @@ new_view n i s f there =
     let j : ℕ = f.destination.imp in
     ap (view_of (imp_is_up (imp_at imps k)) (sender_at (imp_at imps k) f) (imp_is_up (imp_at imps j)) (receiver_at (imp_at imps j) f)) (box_after f i 0 s.hosts n.log)
     ∙ view_parts
-    (imp_is_up (imp_at imps k)) (down_where (k == i) (imp_is_up (imp_at n.imps k)))
-    (sender_at (imp_at imps k) f) (sender_where (k == i) (sender_at (imp_at n.imps k) f))
-    (imp_is_up (imp_at imps j)) (down_where (j == i) (imp_is_up (imp_at n.imps j)))
-    (receiver_at (imp_at imps j) f) (receiver_where (j == i) (receiver_at (imp_at n.imps j) f))
-    (box_of f n.log)
+    _ _
+    _ _
+    _ _
+    _ _
+    _
     (away imp_is_up down_where k (λ x. refl) refl)
     (away (λ (o : Option State). sender_at o f) sender_where k (λ x. refl) refl)
     (away imp_is_up down_where j (λ x. refl) refl)
     (away (λ (o : Option State). receiver_at o f) receiver_where j (λ x. refl) refl)
-    ∙ stopped_view (k == i) (j == i) (imp_is_up (imp_at n.imps k)) (imp_is_up (imp_at n.imps j)) (sender_at (imp_at n.imps k) f) (receiver_at (imp_at n.imps j) f) (box_of f n.log)
+    ∙ stopped_view (k == i) (j == i) (imp_is_up (imp_at n.imps k)) (imp_is_up (imp_at n.imps j)) (sender_at (imp_at n.imps k) f) (receiver_at (imp_at n.imps j) f) _
   where
     away : {X : Type 0} (F : Option State → X) (change : Bool → X → X) (j : ℕ) → ((x : X) → change false x ≡ x) → F None ≡ change true (F (imp_at n.imps i))
         → F (imp_at (slice_set n.imps i None) j) ≡ change (j == i) (F (imp_at n.imps j))
     away F change j still gone =
         at_end F change n.imps i j None true still (set_here n.imps i None s there) gone
-        ∙ ap (λ (b : Bool). change b (F (imp_at n.imps j))) (and_true_is (j == i))
+        ∙ ap (λ (b : Bool). change b (F (imp_at n.imps j))) (and_true_is _)
 
 pub none_begins : (a b : Bool) → one_begins (moves_by a b) ≡ false
 none_begins true true = refl
@@ -255,18 +255,18 @@ stopped n i s there is =
       destination = λ f here. ap (λ (o : Option State). (receiver_at o f).destination) (at f.destination.imp here) ∙ read f.destination.host s.hosts;
       same = λ f. refl;
     } in
-    let ended : Ended n.hosts m.log i (view n) (Alive n) = all_down n.hosts n.log i 0 s.hosts (view n) (view n) (Alive n) going is.flows in
+    let ended : Ended n.hosts m.log i (view n) (Alive n) = all_down _ n.log i 0 _ _ _ _ going is.flows in
     let follow : AllFollow Piece n.hosts [] m.log (moves i) ended.views (view m) (Alive n) (Alive m) = record {
       follows = λ f. ends (f.source.imp == i) (f.destination.imp == i) (ended.views f) (view m f) (Alive n f) (Alive m f) (new_view n i s f there ∙ sym (ended.same f)) (λ x. alive_less n m f x among);
       shown = λ f. shown (f.source.imp == i) (f.destination.imp == i) (ended.views f) (ended.source f) (ended.destination f);
       ups = tt;
     } in
     record {
-      flows = all_follow n.hosts [] m.log (moves i) ended.views (view m) (Alive n) (Alive m) follow ended.sound;
+      flows = all_follow _ [] m.log _ _ _ _ _ follow ended.sound;
       imps = λ k. at_set IsAt n.imps i k None None (is.imps k) tt;
       formats = formats_less n m among is.formats;
       answers = set_all Answerable n.imps i None is.answers (All-nil Answerable);
-      askable = λ f. moved_askable n m f (moves i f) (new_view n i s f there) (none_begins (f.source.imp == i) (f.destination.imp == i)) is;
+      askable = λ f. moved_askable n m f (moves i f) (new_view n i s f there) (none_begins _ _) is;
     }
   where
     at : (j : ℕ) → (j == i) ≡ true → imp_at n.imps j ≡ Some s
@@ -278,7 +278,7 @@ without_imp n i o = record n { imps = slice_set n.imps i None; log = downs_at i 
 pub imp_down_sound : (n : Net) (i : ℕ) → imp_refusal n i ≡ None → IsSound n → IsSound (imp_stopped n i)
 imp_down_sound n i allowed is =
     let last : Option CarrierFault = at_up (imp_at n.imps i) accepted in
-    let there : (not (is_imp n i) ≡ false) × (last ≡ None) = guard (not (is_imp n i)) fault.NoSuch last allowed in
+    let there : (not (is_imp n i) ≡ false) × (last ≡ None) = guard _ _ last allowed in
     by (imp_at n.imps i) refl there.1
   where
     by : (o : Option State) → imp_at n.imps i ≡ o → at_up o accepted ≡ None → IsSound (imp_stopped n i)

@@ -1,5 +1,5 @@
 -- An IMP starts, empty: so do the ends of all flows from it and to it.
-use Rattle.subnet.proofs.Common.{get-empty, flat_map, list_any, All-nil, All-head, All-tail, All-contains, same_flow, flow_cmp, Box, box_of, Flow, CarrierFault, guard, or_false, same_flow-true, last_in, outstanding_in, PacketFields, View, Packet, is_request, Move, after_all, shown_by, Follows, AllFollow, Message, Told, State, HostState, no_host, host_at, number, IsImp, Sender, Receiver, sender, receiver, answers_of, messages_of, Net, imp_at, ends_at, packets, messages, messages_at_imp, has_flow, is_remembered, says, is_awaited, NothingNew, IsAt, IsSound}
+use Rattle.subnet.proofs.Common.{get-empty, flat_map, list_any, All-nil, All-head, All-tail, All-contains, same_flow, flow_cmp, Box, Flow, CarrierFault, guard, or_false, same_flow-true, last_in, outstanding_in, PacketFields, View, Packet, is_request, Move, after_all, shown_by, Follows, AllFollow, Message, Told, State, HostState, no_host, host_at, number, IsImp, Sender, Receiver, sender, receiver, answers_of, messages_of, Net, imp_at, ends_at, packets, messages, messages_at_imp, has_flow, is_remembered, says, is_awaited, NothingNew, IsAt, IsSound}
 use Rattle.std.proofs.Common.{◌≡◌, ℕ, zero, suc, Bool, true, false, not, List, [], ◌∷◌, ◌++◌, map, get_or, Option, Some, None, is_some, refl, ap, sym, subst, ◌∙◌, ◌==◌, ◌&&◌, ◌||◌, if◌then◌else◌, eqb-true, inl, inr, ◌⊎◌, cond, replicate, All}
 use Rattle.std.specs.Prelude.{slice_set, count_by}
 use Rattle.interface.specs.declared.carrier.CarrierFault.TheVariants as fault
@@ -32,14 +32,14 @@ none_wait (suc count) = none_wait count
 started_sender : (i hosts ports : ℕ) (f : Flow) → sender (started_imp i hosts ports) f ≡ no_sender
 started_sender i hosts ports f =
     let s : State = started_imp i hosts ports in
-    same_sender (host_at s f.source.host).up false (sender s f).last None (sender s f).outstanding None (answers_of f (host_at s f.source.host).answers) []
+    same_sender _ false _ None _ None _ []
     (down_hosts (λ (h : HostState). h.up) hosts f.source.host) (ap last_in (get-empty flow_cmp f)) (ap outstanding_in (get-empty flow_cmp f))
     (down_hosts (λ (h : HostState). answers_of f h.answers) hosts f.source.host)
 
 started_receiver : (i hosts ports : ℕ) (f : Flow) → receiver (started_imp i hosts ports) f ≡ no_receiver
 started_receiver i hosts ports f =
     let s : State = started_imp i hosts ports in
-    same_receiver (host_at s f.destination.host).up false (receiver s f).kept None (messages_of f (host_at s f.destination.host).queue) []
+    same_receiver _ false _ None _ []
     (down_hosts (λ (h : HostState). h.up) hosts f.destination.host) (get-empty flow_cmp f)
     (down_hosts (λ (h : HostState). messages_of f h.queue) hosts f.destination.host)
 
@@ -131,8 +131,8 @@ unread n i f silent ours = by (imp_at n.imps f.destination.imp) (queue_all (λ (
 -- what no IMP says, none at a place says
 none_says : (test : Option State → Bool) (imps : List (Option State)) (k : ℕ) → test None ≡ false → list_any test imps ≡ false → test (imp_at imps k) ≡ false
 none_says test [] k nobody none = nobody
-none_says test (o ∷ imps) zero nobody none = (or_false (test o) (list_any test imps) none).0
-none_says test (o ∷ imps) (suc k) nobody none = none_says test imps k nobody (or_false (test o) (list_any test imps) none).1
+none_says test (o ∷ imps) zero nobody none = (or_false (test o) _ none).0
+none_says test (o ∷ imps) (suc k) nobody none = none_says test imps k nobody (or_false (test o) _ none).1
 
 -- an IMP that is down has nothing outstanding, and another one awaits nothing from it
 idle : (n : Net) (i : ℕ) (f : Flow) → imp_at n.imps i ≡ None → is_awaited n i ≡ false → IsSound n → is_at_end i f ≡ true → (view n f).outstanding ≡ None
@@ -146,7 +146,7 @@ idle n i f down none is ours = by (f.source.imp == i) refl (imp_at n.imps f.sour
   by false here (Some s) at ours =
       let own : number s ≡ f.source.imp = (subst (IsAt f.source.imp) at (is.imps f.source.imp)).own in
       let other : (number s == i) ≡ false = ap (λ (k : ℕ). k == i) own ∙ here in
-      let silent : (not (number s == i) && awaits s i) ≡ false = sym (ap asks at) ∙ none_says asks n.imps f.source.imp refl none in
+      let silent : (not (number s == i) && awaits s i) ≡ false = sym (ap asks at) ∙ none_says asks n.imps _ refl none in
       let waits : awaits s i ≡ false = ap (λ (b : Bool). not b && awaits s i) (sym other) ∙ silent in
       none_awaited (Some s) i f waits ours
 
@@ -166,21 +166,21 @@ new_view n i s f start =
     let a : Bool = k == i in
     let b : Bool = j == i in
     view_parts
-    (imp_is_up (imp_at imps k)) (up_where a (imp_is_up (imp_at n.imps k)))
-    (sender_at (imp_at imps k) f) (sender_at (imp_at n.imps k) f)
-    (imp_is_up (imp_at imps j)) (up_where b (imp_is_up (imp_at n.imps j)))
-    (receiver_at (imp_at imps j) f) (receiver_at (imp_at n.imps j) f)
-    (box_of f n.log)
+    _ _
+    _ _
+    _ _
+    _ _
+    _
     (up k)
     (same_at (λ (o : Option State). sender_at o f) n.imps i k (Some s) None (start.from f ∙ ap (λ (o : Option State). sender_at o f) (sym start.down)))
     (up j)
     (same_at (λ (o : Option State). receiver_at o f) n.imps i j (Some s) None (start.to f ∙ ap (λ (o : Option State). receiver_at o f) (sym start.down)))
-    ∙ started_view a b (imp_is_up (imp_at n.imps k)) (imp_is_up (imp_at n.imps j)) (sender_at (imp_at n.imps k) f) (receiver_at (imp_at n.imps j) f) (box_of f n.log)
+    ∙ started_view a b _ _ _ (receiver_at (imp_at n.imps j) f) _
   where
     up : (j : ℕ) → imp_is_up (imp_at (slice_set n.imps i (Some s)) j) ≡ up_where (j == i) (imp_is_up (imp_at n.imps j))
     up j =
-        at_end imp_is_up up_where n.imps i j (Some s) true (λ x. refl) start.there refl
-        ∙ ap (λ (c : Bool). up_where c (imp_is_up (imp_at n.imps j))) (and_true_is (j == i))
+        at_end imp_is_up up_where n.imps i j _ true (λ x. refl) start.there refl
+        ∙ ap (λ (c : Bool). up_where c (imp_is_up (imp_at n.imps j))) (and_true_is _)
 
 none_begins : (a b : Bool) → one_begins (moves_by a b) ≡ false
 none_begins true true = refl
@@ -209,7 +209,7 @@ started n i down none alone is =
       | inr same ↦ (let at : List (Option State) → Net = λ imps. record n { imps = imps } in subst (λ (imps : List (Option State)). IsSound (at imps)) (sym same) is)
       | inl there ↦ (
           let start : Starting n i s = record { down = down; there = there; from = started_sender i hosts ports; to = started_receiver i hosts ports } in
-          let silent : All (λ p. packet_touches i p ≡ false) (packets n) × All (λ q. message_touches i q ≡ false) (messages n) = nowhere n (packet_touches i) (message_touches i) none in
+          let silent : All (λ p. packet_touches i p ≡ false) (packets n) × All (λ q. message_touches i q ≡ false) (messages n) = nowhere n _ _ none in
           let among : NothingNew n m = start_imp_nothing n i in
           let follow : AllFollow Piece n.hosts [] n.log (moves i) (view n) (view m) (Alive n) (Alive m) = record {
             follows = λ f. follows (f.source.imp == i) (f.destination.imp == i) (view n f) (view m f) (Alive n f) (Alive m f)
@@ -220,7 +220,7 @@ started n i down none alone is =
           all_moved n m.imps m.lines [] (moves i) follow
           (λ k. at_set IsAt n.imps i k (Some s) None (is.imps k) (started_is i hosts ports))
           (formats_less n m among is.formats)
-          (subst (All Answerable) (sym (kept_messages n.imps i (Some s) (none_wait hosts ∙ ap messages_at_imp (sym down)))) is.answers)
+          (subst (All Answerable) (sym (kept_messages n.imps i _ (none_wait hosts ∙ ap messages_at_imp (sym down)))) is.answers)
           (λ f. none_begins (f.source.imp == i) (f.destination.imp == i))
           is)
     ]
@@ -228,16 +228,16 @@ started n i down none alone is =
 pub imp_up_sound : (n : Net) (i : ℕ) → starting_refusal n i ≡ None → IsSound n → IsSound (imp_started n i)
 imp_up_sound n i allowed is =
     let last : Option CarrierFault = if is_some (imp_at n.imps i) then Some fault.IsUp else None in
-    let fourth : Option CarrierFault = first_of (is_awaited n i) fault.StillAlive last in
-    let third : Option CarrierFault = first_of (is_remembered n i) fault.StillAlive fourth in
-    let second : Option CarrierFault = first_of (has_flow n i) fault.StillAlive third in
-    let there : (not (is_imp n i) ≡ false) × (second ≡ None) = guard (not (is_imp n i)) fault.NoSuch second allowed in
-    let gone : (has_flow n i ≡ false) × (third ≡ None) = guard (has_flow n i) fault.StillAlive third there.1 in
-    let forgotten : (is_remembered n i ≡ false) × (fourth ≡ None) = guard (is_remembered n i) fault.StillAlive fourth gone.1 in
-    let alone : (is_awaited n i ≡ false) × (last ≡ None) = guard (is_awaited n i) fault.StillAlive last forgotten.1 in
-    let down : (is_some (imp_at n.imps i) ≡ false) × (let rest : Option CarrierFault = None in rest ≡ None) = guard (is_some (imp_at n.imps i)) fault.IsUp None alone.1 in
+    let fourth : Option CarrierFault = first_of _ _ last in
+    let third : Option CarrierFault = first_of _ _ fourth in
+    let second : Option CarrierFault = first_of _ _ third in
+    let there : (not (is_imp n i) ≡ false) × (second ≡ None) = guard _ _ second allowed in
+    let gone : (has_flow n i ≡ false) × (third ≡ None) = guard _ _ third there.1 in
+    let forgotten : (is_remembered n i ≡ false) × (fourth ≡ None) = guard _ _ fourth gone.1 in
+    let alone : (is_awaited n i ≡ false) × (last ≡ None) = guard _ _ last forgotten.1 in
+    let down : (is_some (imp_at n.imps i) ≡ false) × (let rest : Option CarrierFault = None in rest ≡ None) = guard _ _ None alone.1 in
     by (imp_at n.imps i) refl down.0 gone.0 alone.0
   where
     by : (o : Option State) → imp_at n.imps i ≡ o → is_some o ≡ false → has_flow n i ≡ false → is_awaited n i ≡ false → IsSound (imp_started n i)
     by None at down gone alone = started n i at gone alone is
-    by (Some s) at down gone alone = absurd (cc)
+    by _ at down gone alone = absurd (cc)

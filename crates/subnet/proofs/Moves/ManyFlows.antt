@@ -14,7 +14,7 @@ pub all_moved : (n : Net) (imps : List (Option State)) (lines : List Wire) (entr
 all_moved n imps lines entries moves follow at formats answers none is =
     let m : Net = record n { imps = imps; lines = lines; log = entries ++ n.log } in
     record {
-      flows = all_follow n.hosts entries n.log moves (view n) (view m) (Alive n) (Alive m) follow is.flows;
+      flows = all_follow _ entries n.log moves _ _ _ _ follow is.flows;
       imps = at;
       formats = formats;
       answers = answers;
@@ -29,7 +29,7 @@ pub at_end_if : {X : Type 0} (F : Option State → X) (change : Bool → X → X
 at_end_if F change imps i j o b still there is = elim (cases_Bool (j == i)) [
   | inl same ↦ (let at : j ≡ i = eqb-true j i same in
       rw same (ap (λ (k : ℕ). F (imp_at (slice_set imps i o) k)) at ∙ ap F there ∙ is same ∙ ap (λ (k : ℕ). change b (F (imp_at imps k))) (sym at)))
-  | inr other ↦ rw other (ap F (get_or-set_other imps i j o None (λ (e : j ≡ i). let both : true ≡ false = sym (eq-eqb j i e) ∙ other in cc)) ∙ sym (still (F (imp_at imps j))))
+  | inr other ↦ rw other (ap F (get_or-set_other imps i j o None (λ (e : j ≡ i). let both : true ≡ false = sym (eq-eqb j i e) ∙ other in cc)) ∙ sym (still _))
 ]
 
 pub at_end : {X : Type 0} (F : Option State → X) (change : Bool → X → X) (imps : List (Option State)) (i j : ℕ) (o : Option State) (b : Bool)
@@ -50,7 +50,7 @@ kept_messages (p ∷ imps) (suc i) o same = ap (λ (ms : List Message). messages
 -- what holds of all messages, and of those of the new IMP, holds of all messages
 pub set_all : (P : Message → Type 0) (imps : List (Option State)) (i : ℕ) (o : Option State) → All P (flat_map messages_at_imp imps) → All P (messages_at_imp o) → All P (flat_map messages_at_imp (slice_set imps i o))
 set_all P [] i o all new = all
-set_all P (p ∷ imps) zero o all new = All-append P (messages_at_imp o) (flat_map messages_at_imp imps) new (parts_right P (messages_at_imp p) (flat_map messages_at_imp imps) all)
+set_all P (p ∷ imps) zero o all new = All-append P (messages_at_imp o) (flat_map messages_at_imp imps) new (parts_right P _ _ all)
 set_all P (p ∷ imps) (suc i) o all new =
-    All-append P (messages_at_imp p) (flat_map messages_at_imp (slice_set imps i o)) (parts_left P (messages_at_imp p) (flat_map messages_at_imp imps) all)
-    (set_all P imps i o (parts_right P (messages_at_imp p) (flat_map messages_at_imp imps) all) new)
+    All-append P (messages_at_imp p) (flat_map messages_at_imp (slice_set imps i o)) (parts_left P _ _ all)
+    (set_all P imps i o (parts_right P _ _ all) new)

@@ -1,5 +1,7 @@
 -- A message is offered.
-use Rattle.subnet.proofs.Common.{map-append, All-nil, All-push, All-weaker, All-contains, All-contains_itself, list_any, body, is_host, Box, box_of, Flow, CarrierFault, Answer, Crossing, HostMessage, Standing, PacketKind, View, Packet, Queued, Message, Told, Sender, Receiver, sender, receiver, answers_of, begun_with, told_with, noted_with, queued_with, IsImp, Net, imp_at, with_turn, packets, is_alive, says, OnlyNew, IsCarriable, CanGo, CanGoFrom, IsAt, IsSound}
+use Rattle.subnet.proofs.Common.{map-append, All-nil, All-push, All-weaker, All-contains, All-contains_itself, list_any, is_host, Box, box_of, Flow, CarrierFault, Answer, Crossing, HostMessage, Standing, PacketKind, View, Packet, Queued, Message, Told, Sender, Receiver, sender, receiver, answers_of, begun_with, noted_with, queued_with, IsImp, Net, imp_at, with_turn, packets, is_alive, says, OnlyNew, IsCarriable, CanGo, CanGoFrom, IsAt, IsSound}
+use Rattle.imp_node.specs.Sides.{told_with}
+use Rattle.bit_messages.specs.Body.{body}
 use Rattle.std.proofs.Common.{arith, ◌≡◌, ◌≢◌, ℕ, ◌+◌, ◌<◌, ◌≤◌, ◌==◌, ◌||◌, eq-eqb, inl, inr, Bool, true, false, not, List, [], ◌∷◌, ◌++◌, length, Option, Some, None, refl, ap, sym, ◌∙◌, subst, All, Contains}
 use Rattle.std.specs.FinMap as finite
 use Rattle.std.proofs.lemmas.Option.{same_Some}
@@ -43,13 +45,13 @@ answer_format k f n body source destination link small = record { source = sourc
 
 number_small : (s : State) (f : Flow) → next_number s f < message_numbers
 unfolding modulus
-number_small s f = number_begun (finite.get s.sources f)
+number_small s f = number_begun _
 
 -- a piece of a message
 piece_format : (m : HostMessage) (n : ℕ) (p : PacketFields) → IsCarriable m → n < message_numbers → IsPieceFor m.flow n p → CarriesPieceOf (body m.text) p → IsPacket p
 piece_format m n p can small of carries =
     let w : List Bool = body m.text in
-    let fits : IsPiece p.place (p.place + 1 == piece_count w) (length (piece w p.place)) = piece_fits w p.place (body_sized m.text can.text) carries.there in
+    let fits : IsPiece p.place (p.place + 1 == piece_count w) (length (piece w p.place)) = piece_fits w _ (body_sized m.text can.text) carries.there in
     let few : piece_count w ≤ 8 = few_pieces w (body_sized m.text can.text) in
     let there : p.place < piece_count w = carries.there in
     let here : IsPiece p.place p.last (length p.bits) = rw (carries.flag, carries.same) fits in
@@ -84,7 +86,7 @@ idle_none (Some (standing.Answered l)) idle = refl
 no_answers : (f : Flow) (ts : List Told) → list_any (is_about f) ts ≡ false → answers_of f ts ≡ []
 no_answers f [] none = refl
 no_answers f (t ∷ ts) none =
-    let both : (same_flow f t.flow ≡ false) × (list_any (is_about f) ts ≡ false) = or_false (same_flow f t.flow) (list_any (is_about f) ts) none in
+    let both : (same_flow f t.flow ≡ false) × (list_any (is_about f) ts ≡ false) = or_false (same_flow f t.flow) _ none in
     rw both.0 (no_answers f ts both.1)
 
 -- the source is up and its flow idle
@@ -97,11 +99,11 @@ ready : (s : State) (m : HostMessage) → from_host_refusal s m ≡ None → IsR
 ready s m accepted =
     let room : Option CarrierFault = first_of (not (way_has_room (way_of s m.flow) s m)) fault.NoRoom None in
     let blocked : Option CarrierFault = first_of (not (is_idle s m.flow)) fault.Blocked room in
-    let down : Option CarrierFault = first_of (not (is_up s m.flow.source.host)) fault.IsDown blocked in
-    let own : (not (is_own s m.flow.source) ≡ false) × (down ≡ None) = guard (not (is_own s m.flow.source)) fault.NoSuch down accepted in
-    let up : (not (is_up s m.flow.source.host) ≡ false) × (blocked ≡ None) = guard (not (is_up s m.flow.source.host)) fault.IsDown blocked own.1 in
-    let idle : (not (is_idle s m.flow) ≡ false) × (room ≡ None) = guard (not (is_idle s m.flow)) fault.Blocked room up.1 in
-    record { own = not_false (is_own s m.flow.source) own.0; up = not_false (is_up s m.flow.source.host) up.0; idle = not_false (is_idle s m.flow) idle.0 }
+    let down : Option CarrierFault = first_of (not (is_up s _)) fault.IsDown blocked in
+    let own : (not (is_own s m.flow.source) ≡ false) × (down ≡ None) = guard _ _ down accepted in
+    let up : (not (is_up s m.flow.source.host) ≡ false) × (blocked ≡ None) = guard _ fault.IsDown blocked own.1 in
+    let idle : (not (is_idle s m.flow) ≡ false) × (room ≡ None) = guard _ fault.Blocked room up.1 in
+    record { own = not_false _ own.0; up = not_false _ up.0; idle = not_false _ idle.0 }
 
 can_offer : (n : Net) (s : State) (g : Flow) → imp_at n.imps g.source.imp ≡ Some s → IsReady s g → CanOffer (view n g)
 can_offer n s g at is =
@@ -109,8 +111,8 @@ can_offer n s g at is =
     and_true (is_idle_in (finite.get s.sources g)) (not (list_any (is_about g) (host_at s g.source.host).answers)) is.idle in
     record {
       source = ap (λ (o : Option State). (sender_at o g).source) at ∙ is.up;
-      idle = ap (λ (o : Option State). (sender_at o g).outstanding) at ∙ idle_none (finite.get s.sources g) both.0;
-      answered = ap (λ (o : Option State). (sender_at o g).answers) at ∙ no_answers g (host_at s g.source.host).answers (not_true (list_any (is_about g) (host_at s g.source.host).answers) both.1);
+      idle = ap (λ (o : Option State). (sender_at o g).outstanding) at ∙ idle_none _ both.0;
+      answered = ap (λ (o : Option State). (sender_at o g).answers) at ∙ no_answers g _ (not_true _ both.1);
     }
 
 -- the number that is not kept is another one than the one that is
@@ -130,7 +132,7 @@ is_free : (n : Net) (s : State) (g : Flow) → IsReady s g → goes (way_of s g)
 is_free n s g is away dead =
     let begins_so : begins s g ≡ true = rw (is.own, is.up, is.idle, away) refl in
     let none : (alive_behind n g (last s g) || is_kept n g (moves.next_number (last s g))) ≡ false = rw begins_so at dead in
-    let both : (alive_behind n g (last s g) ≡ false) × (is_kept n g (moves.next_number (last s g)) ≡ false) = or_false (alive_behind n g (last s g)) (is_kept n g (moves.next_number (last s g))) none in
+    let both : (alive_behind n g (last s g) ≡ false) × (is_kept n g (moves.next_number (last s g)) ≡ false) = or_false (alive_behind n g (last s g)) _ none in
     record { behind = both.0; unkept = both.1 }
 
 -- nothing is alive that would be too old
@@ -138,7 +140,7 @@ number_free : (n : Net) (s : State) (g : Flow) → imp_at n.imps g.source.imp �
 number_free n s g at behind l lasts x alive =
     let was : last s g ≡ Some l = sym (ap (λ (o : Option State). (sender_at o g).last) at) ∙ lasts in
     let gone : is_alive n g (oldest l) ≡ false = rw was at behind in
-    no_packet n g (oldest l) (not_alive n g (oldest l) gone).0 x alive
+    no_packet n g _ (not_alive n g _ gone).0 x alive
 
 can_begin : (n : Net) (s : State) (g : Flow) → imp_at n.imps g.source.imp ≡ Some s → IsReady s g → goes (way_of s g) ≡ true → offer_alive n g (Some s) ≡ false → CanBegin (view n g) (Alive n g)
 can_begin n s g at is away dead =
@@ -147,7 +149,7 @@ can_begin n s g at is away dead =
     record {
       offer = can_offer n s g at is;
       free = number_free n s g at free.behind;
-      unkept = not_kept (imp_at n.imps g.destination.imp) g (moves.next_number (view n g).last) (ap (λ (l : Option ℕ). is_kept n g (moves.next_number l)) (sym was) ∙ free.unkept);
+      unkept = not_kept _ g _ (ap (λ (l : Option ℕ). is_kept n g (moves.next_number l)) (sym was) ∙ free.unkept);
     }
 
 -- ---- what waits after it
@@ -158,15 +160,15 @@ offered_answers Nowhere m s can all =
 offered_answers Here m s can all =
     let h : ℕ = m.flow.destination.host in
     let q : Message = record { flow = m.flow; number = next_number s m.flow; text = m.text } in
-    set_queue Answerable s.hosts h (record (host_at s h) { queue = (host_at s h).queue ++ q ∷ [] }) all
-    (All-push Answerable (host_at s h).queue q (at_host_all Answerable s.hosts h all)
-    (answer_format kind.Rfnm m.flow (next_number s m.flow) (record { first = refl; only = refl; empty = refl }) can.source can.destination can.link (number_small s m.flow)))
+    set_queue Answerable _ h _ all
+    (All-push Answerable (host_at s h).queue q (at_host_all Answerable _ h all)
+    (answer_format _ m.flow _ (record { first = refl; only = refl; empty = refl }) can.source can.destination can.link (number_small s m.flow)))
 offered_answers Away m s can all = all
 
 -- a question about the message that was begun is a packet by the format
 begun_format : (m : HostMessage) (s : State) → IsCarriable m → (number : ℕ) → next_number s m.flow ≡ number → IsPacket (answer_packet kind.Rfnm m.flow number)
 begun_format m s can number same =
-    answer_format kind.Rfnm m.flow number (record { first = refl; only = refl; empty = refl }) can.source can.destination can.link (subst (λ (k : ℕ). k < message_numbers) same (number_small s m.flow))
+    answer_format _ m.flow number (record { first = refl; only = refl; empty = refl }) can.source can.destination can.link (subst (λ (k : ℕ). k < message_numbers) same (number_small s m.flow))
 
 -- ---- the event, by where the message goes
 
@@ -183,12 +185,12 @@ box_put m log = rw (same_flow-refl m.flow) refl
 
 offer_only : (n : Net) (i : ℕ) (s : State) (m : HostMessage) (way : Way) → imp_at n.imps i ≡ Some s → way_of s m.flow ≡ way → OnlyNew n (cut_for way s m) (with_turn i (from_host s m) n)
 offer_only n i s m way at is =
-    turn_only n i s (from_host s m) (cut_for way s m) at
+    turn_only n i s _ _ at
     (λ has made. from_host_has (Contains (packets n ++ cut_for way s m)) s m has (subst (λ (w : Way). All (Contains (packets n ++ cut_for way s m)) (cut_for w s m)) (sym is) made))
 
 offer_answers : (n : Net) (s : State) (m : HostMessage) (way : Way) → imp_at n.imps m.flow.source.imp ≡ Some s → way_of s m.flow ≡ way → CanGo way m → IsSound n → All Answerable (contents.messages (from_host s m).state)
 offer_answers n s m way at is can sound =
-    subst (λ (w : Way). All Answerable (contents.messages (offered w m s))) (sym is) (offered_answers way m s can (answerable n m.flow.source.imp s at sound))
+    subst (λ (w : Way). All Answerable (contents.messages (offered w m s))) (sym is) (offered_answers way m s can (answerable n _ s at sound))
 
 told_alone : (k : Answer) (f : Sender) → f.source ≡ true → f.answers ≡ [] → told_with k f ≡ record f { answers = k ∷ [] }
 told_alone k f up none = rw (up, none) refl
@@ -203,22 +205,22 @@ to_nowhere n s m o is moved sound =
     let can : CanOffer (view n g) = can_offer n s g o.at o.ready in
     let change : Sender → Sender = λ f. record f { answers = answer.Dead ∷ [] } in
     let from : sender (from_host s m).state g ≡ change (sender s g) =
-    moved.sender ∙ told_alone answer.Dead (sender s g) o.ready.up (sym (ap (λ (p : Option State). (sender_at p g).answers) o.at) ∙ can.answered) in
+    moved.sender ∙ told_alone _ _ o.ready.up (sym (ap (λ (p : Option State). (sender_at p g).answers) o.at) ∙ can.answered) in
     let only : OnlyNew n [] (with_turn i (from_host s m) n) = offer_only n i s m Nowhere o.at is in
-    followed_turn n i s (from_host s m) entries g (move ∷ []) [] (record {
+    followed_turn n i s (from_host s m) entries g _ [] (record {
       at = o.at;
       sound = from_host_imp i s m o.accepted o.imp;
       others = moved.others;
-      crossings = out_crosses n.hosts m n.log;
+      crossings = out_crosses _ m n.log;
       only = only;
       of_flow = All-nil (λ (p : PacketFields). flow_of p ≡ g);
       formats = All-nil IsPacket;
       answers = offer_answers n s m Nowhere o.at is tt sound;
       here =
-          makes_one move (view n g) (view next g) (Alive n g) (Alive next g) can
-          (moved_view n i s (from_host s m) entries g (change (sender_at (imp_at n.imps i) g)) (receiver_at (imp_at n.imps g.destination.imp) g) (Box.Waiting (length n.log) m.text) o.at
-          (source_changed change n.imps i s (from_host s m).state g o.at refl from)
-          (destination_same n.imps i s (from_host s m).state g o.at moved.receiver)
+          makes_one move _ _ _ _ can
+          (moved_view n i s (from_host s m) entries g _ _ _ o.at
+          (source_changed change n.imps i s _ g o.at refl from)
+          (destination_same n.imps i s _ g o.at moved.receiver)
           (box_put m n.log))
           (λ x. alive_or_made n next [] (λ (y : Packet). ⊥) g x only (All-nil (λ (p : PacketFields). ⊥)));
       shown = out_here m n.log;
@@ -227,7 +229,7 @@ to_nowhere n s m o is moved sound =
 
 -- the number of the next message, as its flow sees it
 next_same : (n : Net) (s : State) (g : Flow) → imp_at n.imps g.source.imp ≡ Some s → next_number s g ≡ moves.next_number (view n g).last
-next_same n s g at = next_is (finite.get s.sources g) ∙ ap moves.next_number (sym (ap (λ (o : Option State). (sender_at o g).last) at))
+next_same n s g at = next_is _ ∙ ap moves.next_number (sym (ap (λ (o : Option State). (sender_at o g).last) at))
 
 over_lines : (n : Net) (s : State) (m : HostMessage) → IsOffered n s m → way_of s m.flow ≡ Away → IsCarriable m → OfferMoves Away m s (from_host s m).state → IsSound n → IsSound (logging (crossing.Out m ∷ []) (with_turn m.flow.source.imp (from_host s m) n))
 over_lines n s m o is carriable moved sound =
@@ -242,23 +244,23 @@ over_lines n s m o is carriable moved sound =
     let made : List PacketFields = packets_of g (next_number s g) w in
     let only : OnlyNew n made (with_turn i (from_host s m) n) = offer_only n i s m Away o.at is in
     let pieces : All (λ (p : PacketFields). IsPieceOf Piece k m.text (packet_of p)) made =
-    each_packet g (next_number s g) w (λ p. IsPieceOf Piece k m.text (packet_of p)) (λ p of carries. record { data_packet = ap kind_of of.data_kind; number = of.same_number ∙ same; piece = record { there = carries.there; flag = carries.flag; same = carries.same } }) in
+    each_packet g _ w (λ p. IsPieceOf Piece k m.text (packet_of p)) (λ p of carries. record { data_packet = ap kind_of of.data_kind; number = of.same_number ∙ same; piece = record { there = carries.there; flag = carries.flag; same = carries.same } }) in
     let new : view next g ≡ view_moved move (view n g) =
-    moved_view n i s (from_host s m) entries g (begun_with k (sender_at (imp_at n.imps i) g)) (receiver_at (imp_at n.imps g.destination.imp) g) (Box.Waiting (length n.log) m.text) o.at
-    (source_changed (begun_with k) n.imps i s (from_host s m).state g o.at refl (moved.sender ∙ ap (λ (j : ℕ). begun_with j (sender s g)) same))
-    (destination_same n.imps i s (from_host s m).state g o.at moved.receiver)
+    moved_view n i s (from_host s m) entries g _ _ _ o.at
+    (source_changed (begun_with k) n.imps i s _ g o.at refl (moved.sender ∙ ap (λ (j : ℕ). begun_with j (sender s g)) same))
+    (destination_same n.imps i s _ g o.at moved.receiver)
     (box_put m n.log) in
-    followed_turn n i s (from_host s m) entries g (move ∷ []) made (record {
+    followed_turn n i s (from_host s m) entries g _ made (record {
       at = o.at;
       sound = from_host_imp i s m o.accepted o.imp;
       others = moved.others;
-      crossings = out_crosses n.hosts m n.log;
+      crossings = out_crosses _ m n.log;
       only = only;
-      of_flow = each_packet g (next_number s g) w (λ p. flow_of p ≡ g) (λ p of carries. of.flow);
-      formats = each_packet g (next_number s g) w IsPacket (λ p of carries. piece_format m (next_number s g) p carriable (number_small s g) of carries);
+      of_flow = each_packet g _ w _ (λ p of carries. of.flow);
+      formats = each_packet g _ w IsPacket (λ p of carries. piece_format m (next_number s g) p carriable (number_small s g) of carries);
       answers = offer_answers n s m Away o.at is carriable sound;
       here =
-          makes_one move (view n g) (view next g) (Alive n g) (Alive next g)
+          makes_one move _ _ _ _
           (can_begin n s g o.at o.ready (ap goes is) o.dead)
           new
           (λ x. alive_or_made n next made (IsPieceOf Piece k m.text) g x only pieces);
@@ -281,21 +283,21 @@ within n s m o is carriable moved sound =
     let here : g.destination.imp ≡ i = here_imp s g is ∙ o.imp.own in
     let only : OnlyNew n [] (with_turn i (from_host s m) n) = offer_only n i s m Here o.at is in
     let waits : view next g ≡ view_of (imp_is_up (imp_at n.imps i)) (begun_with k from) (imp_is_up (imp_at n.imps g.destination.imp)) (queued_with (message k) (noted_with k fate.Waits to)) (Box.Waiting (length n.log) m.text) =
-    moved_view n i s (from_host s m) entries g (begun_with k from) (queued_with (message k) (noted_with k fate.Waits to)) (Box.Waiting (length n.log) m.text) o.at
-    (source_changed (begun_with k) n.imps i s (from_host s m).state g o.at refl (moved.sender ∙ ap (λ (j : ℕ). begun_with j (sender s g)) same))
-    (destination_changed (λ (r : Receiver). queued_with (message k) (noted_with k fate.Waits r)) n.imps i s (from_host s m).state g o.at here (moved.receiver ∙ ap (λ (j : ℕ). queued_with (message j) (noted_with j fate.Waits (receiver s g))) same))
+    moved_view n i s (from_host s m) entries g _ _ _ o.at
+    (source_changed (begun_with k) n.imps i s _ g o.at refl (moved.sender ∙ ap (λ (j : ℕ). begun_with j (sender s g)) same))
+    (destination_changed (λ (r : Receiver). queued_with (message k) (noted_with k fate.Waits r)) n.imps i s _ g o.at here (moved.receiver ∙ ap (λ (j : ℕ). queued_with (message j) (noted_with j fate.Waits (receiver s g))) same))
     (box_put m n.log) in
-    followed_turn n i s (from_host s m) entries g (move ∷ []) [] (record {
+    followed_turn n i s (from_host s m) entries g _ [] (record {
       at = o.at;
       sound = from_host_imp i s m o.accepted o.imp;
       others = moved.others;
-      crossings = out_crosses n.hosts m n.log;
+      crossings = out_crosses _ m n.log;
       only = only;
       of_flow = All-nil (λ (p : PacketFields). flow_of p ≡ g);
       formats = All-nil IsPacket;
       answers = offer_answers n s m Here o.at is carriable sound;
       here =
-          makes_one move (view n g) (view next g) (Alive n g) (Alive next g)
+          makes_one move _ _ _ _
           (can_begin n s g o.at o.ready (ap goes is) o.dead)
           (waits ∙ ap (λ (q : List Queued). (let v : View = record (view_moved move (view n g)) { queue = q } in v)) (map-append queued_of to.queue (message k ∷ [])))
           (λ x. alive_or_made n next [] (λ (y : Packet). ⊥) g x only (All-nil (λ (p : PacketFields). ⊥)));
@@ -310,8 +312,8 @@ offer_sound n m can accepted sound =
     let i : ℕ = m.flow.source.imp in
     let last : Option CarrierFault = at_up (imp_at n.imps i) (λ s. from_host_refusal s m) in
     let alive : Bool = offer_alive n m.flow (imp_at n.imps i) in
-    let there : (not (is_host n.hosts m.flow.source) ≡ false) × (first_of alive fault.StillAlive last ≡ None) = guard (not (is_host n.hosts m.flow.source)) fault.NoSuch (first_of alive fault.StillAlive last) accepted in
-    let dead : (alive ≡ false) × (last ≡ None) = guard alive fault.StillAlive last there.1 in
+    let there : (not (is_host n.hosts m.flow.source) ≡ false) × (first_of alive fault.StillAlive last ≡ None) = guard _ _ _ accepted in
+    let dead : (alive ≡ false) × (last ≡ None) = guard alive _ last there.1 in
     by (imp_at n.imps i) refl can dead.0 dead.1
   where
     goes_by : (s : State) → IsOffered n s m → (way : Way) → way_of s m.flow ≡ way → CanGo way m → OfferMoves way m s (from_host s m).state → IsSound (logging (crossing.Out m ∷ []) (with_turn m.flow.source.imp (from_host s m) n))

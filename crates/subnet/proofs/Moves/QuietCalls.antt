@@ -1,11 +1,11 @@
 -- Events that make no packet, move no flow and show nothing.
-use Rattle.subnet.proofs.Common.{◌≡◌, ℕ, Option, Some, None, refl, sym, subst, All, Contains, All-weaker, All-contains, Flow, Direction, IsPacket, Message, State, ImpTurn, answer_packet, resend, route, end_down, end_up, abandon, IsImp, AllUnmoved, Net, imp_at, with_turn, packets, at_imp, drop_frame, Alive, view, NothingNew, IsAt, IsSound}
+use Rattle.subnet.proofs.Common.{◌≡◌, ℕ, Option, Some, None, refl, sym, subst, All, Contains, All-weaker, All-contains, Flow, Direction, IsPacket, Message, State, ImpTurn, answer_packet, resend, route, claim, end_down, end_up, abandon, IsImp, AllUnmoved, Net, imp_at, with_turn, packets, at_imp, drop_frame, NothingNew, IsAt, IsSound}
 use Rattle.packetiser.specs.declared.packet.PacketKind.TheVariants as kind
 use Rattle.flow_law.proofs.lemmas.{silent_follows}
-use Rattle.imp_node.proofs.lemmas.{abandon_imp, abandon_unmoved, at_set, end_down_imp, end_down_unmoved, end_up_imp, end_up_unmoved, resend_imp, resend_unmoved, route_imp, route_unmoved}
+use Rattle.imp_node.proofs.lemmas.{abandon_imp, abandon_unmoved, at_set, claim_imp, claim_unmoved, end_down_imp, end_down_unmoved, end_up_imp, end_up_unmoved, resend_imp, resend_unmoved, route_imp, route_unmoved}
 use Rattle.subnet.proofs.Moves.Askable.{same_askable}
 use Rattle.subnet.proofs.Moves.Views.{turn_view, alive_less, same_messages}
-use Rattle.subnet.proofs.Packets.HavingByEvents.{drop_nothing, resend_nothing, route_nothing, end_down_nothing, end_up_nothing, abandon_nothing}
+use Rattle.subnet.proofs.Packets.HavingByEvents.{drop_nothing, resend_nothing, route_nothing, claim_nothing, end_down_nothing, end_up_nothing, abandon_nothing}
 
 -- packets that were there are by the format
 pub formats_less : (n m : Net) → NothingNew n m → All IsPacket (packets n) → All IsPacket (packets m)
@@ -17,10 +17,10 @@ quiet_turn : (n : Net) (i : ℕ) (s : State) (turn : ImpTurn) → imp_at n.imps 
 quiet_turn n i s turn at still imp hosts among is =
     let m : Net = with_turn i turn n in
     record {
-      flows = silent_follows n.hosts n.log (view n) (view m) (Alive n) (Alive m) (λ f. turn_view n i s turn f at (still f)) (λ f x. alive_less n m f x among) is.flows;
+      flows = silent_follows _ n.log _ _ _ _ (λ f. turn_view n i s turn f at (still f)) (λ f x. alive_less n m f x among) is.flows;
       imps = λ k. at_set IsAt n.imps i k (Some turn.state) None (is.imps k) imp;
       formats = formats_less n m among is.formats;
-      answers = subst (All (λ (q : Message). IsPacket (answer_packet kind.Rfnm q.flow q.number))) (sym (same_messages n.imps i s turn.state at hosts)) is.answers;
+      answers = subst (All (λ (q : Message). IsPacket (answer_packet kind.Rfnm q.flow q.number))) (sym (same_messages n.imps i s _ at hosts)) is.answers;
       askable = λ f. same_askable n m f (turn_view n i s turn f at (still f)) is;
     }
 
@@ -37,7 +37,7 @@ pub drop_sound : (n : Net) (l : ℕ) (d : Direction) (k : ℕ) → IsSound n →
 drop_sound n l d k is =
     let m : Net = drop_frame n l d k in
     record {
-      flows = silent_follows n.hosts n.log (view n) (view m) (Alive n) (Alive m) (λ f. refl) (λ f x. alive_less n m f x (drop_nothing n l d k)) is.flows;
+      flows = silent_follows _ n.log _ _ _ _ (λ f. refl) (λ f x. alive_less n m f x (drop_nothing n l d k)) is.flows;
       imps = is.imps;
       formats = formats_less n m (drop_nothing n l d k) is.formats;
       answers = is.answers;
@@ -50,11 +50,14 @@ resend_sound n i is = quiet_call n i resend resend_unmoved (resend_imp i) (λ s.
 pub route_sound : (n : Net) (i : ℕ) → IsSound n → IsSound (at_imp (imp_at n.imps i) i route n)
 route_sound n i is = quiet_call n i route route_unmoved (route_imp i) (λ s. refl) (route_nothing n i) is
 
+pub claim_sound : (n : Net) (i : ℕ) → IsSound n → IsSound (at_imp (imp_at n.imps i) i claim n)
+claim_sound n i is = quiet_call n i claim claim_unmoved (claim_imp i) (λ s. refl) (claim_nothing n i) is
+
 pub end_down_sound : (n : Net) (i k : ℕ) → IsSound n → IsSound (at_imp (imp_at n.imps i) i (λ s. end_down s k) n)
-end_down_sound n i k is = quiet_call n i (λ s. end_down s k) (λ s. end_down_unmoved s k) (λ s imp. end_down_imp i s k imp) (λ s. refl) (end_down_nothing n i k) is
+end_down_sound n i k is = quiet_call n i _ (λ s. end_down_unmoved s k) (λ s imp. end_down_imp i s k imp) (λ s. refl) (end_down_nothing n i k) is
 
 pub end_up_sound : (n : Net) (i k : ℕ) → IsSound n → IsSound (at_imp (imp_at n.imps i) i (λ s. end_up s k) n)
-end_up_sound n i k is = quiet_call n i (λ s. end_up s k) (λ s. end_up_unmoved s k) (λ s imp. end_up_imp i s k imp) (λ s. refl) (end_up_nothing n i k) is
+end_up_sound n i k is = quiet_call n i _ (λ s. end_up_unmoved s k) (λ s imp. end_up_imp i s k imp) (λ s. refl) (end_up_nothing n i k) is
 
 pub abandon_sound : (n : Net) (i : ℕ) (g : Flow) → IsSound n → IsSound (at_imp (imp_at n.imps i) i (λ s. abandon s g) n)
-abandon_sound n i g is = quiet_call n i (λ s. abandon s g) (λ s. abandon_unmoved s g) (λ s imp. abandon_imp i s g imp) (λ s. refl) (abandon_nothing n i g) is
+abandon_sound n i g is = quiet_call n i _ (λ s. abandon_unmoved s g) (λ s imp. abandon_imp i s g imp) (λ s. refl) (abandon_nothing n i g) is

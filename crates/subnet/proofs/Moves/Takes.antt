@@ -1,5 +1,5 @@
 -- A host takes what waits for it.
-use Rattle.subnet.proofs.Common.{All-nil, All-cons, All-head, All-tail, same_flow, Host, is_host, Flow, CarrierFault, Answer, Crossing, HostMessage, guard, not_false, same_flow-refl, release_in, Release, PacketFields, IsPacket, flow_of, Packet, Queued, Kind, Follows, Message, answer_packet, given, answered_by, freed, fated, stored, Sender, Receiver, sender, receiver, fated_with, answers_of, messages_of, ended_with, IsImp, Moved, Net, imp_at, with_turn, packets, NothingNew, OnlyNew, IsAt, IsSound}
+use Rattle.subnet.proofs.Common.{All-nil, All-cons, All-head, All-tail, same_flow, Host, is_host, Flow, CarrierFault, Answer, Crossing, HostMessage, guard, not_false, same_flow-refl, release_in, Release, PacketFields, IsPacket, flow_of, Packet, Queued, Kind, Follows, Message, answer_packet, given, answered_by, freed, stored, Sender, Receiver, sender, receiver, fated_with, answers_of, messages_of, ended_with, IsImp, Moved, Net, imp_at, with_turn, packets, NothingNew, OnlyNew, IsAt, IsSound}
 use Rattle.std.proofs.Common.{◌≡◌, ℕ, Bool, true, false, not, List, [], ◌∷◌, ◌++◌, map, Option, Some, None, refl, ap, sym, ◌∙◌, subst, ◌⊎◌, inl, inr, eqb-true, cond, All, Contains}
 use Rattle.std.specs.FinMap as finite
 use Rattle.interface.specs.Mailboxes.{Box, box_of, fetched}
@@ -13,7 +13,7 @@ use Rattle.flow_law.specs.Moves.{Move, TakeMessage, TakeAnswer, CanTakeMessage, 
 use Rattle.flow_law.specs.Local.{taken_here, view_taken_here}
 use Rattle.flow_law.proofs.lemmas.{answer_here, in_here, makes_one, queued_awaited, take_here}
 use Rattle.imp_node.specs.declared.waiting.Told.{Told}
-use Rattle.imp_node.specs.State.{State, number, host_at, is_there, is_up, with_host}
+use Rattle.imp_node.specs.State.{State, number, host_at, is_there, is_up}
 use Rattle.imp_node.specs.Contents as contents
 use Rattle.imp_node.specs.Making.{rfnm_for}
 use Rattle.imp_node.specs.Moves.{without_first, sender_told}
@@ -34,19 +34,19 @@ answered_messages release.Freed k f number s all =
 answered_messages release.Stale k f number s all = all
 
 pub freed_messages : (k : Answer) (f : Flow) (number : ℕ) (s : State) → All Answerable (contents.messages s) → All Answerable (contents.messages (freed k f number s))
-freed_messages k f number s all = answered_messages (release_in number (finite.get s.sources f)) k f number s all
+freed_messages k f number s all = answered_messages _ k f number s all
 
 replied_messages : (m : Message) (s : State) → All Answerable (contents.messages s) → All Answerable (contents.messages (replied answer.Rfnm kind.Rfnm m s))
-replied_messages m s all = at (is_from_here s m) where
+replied_messages m s all = at _ where
   at : (here : Bool) → All Answerable (contents.messages (cond here (freed answer.Rfnm m.flow m.number s) (stored (answer_packet kind.Rfnm m.flow m.number) s)))
-  at true = freed_messages answer.Rfnm m.flow m.number s all
+  at true = freed_messages answer.Rfnm m.flow _ s all
   at false = all
 
 taken_messages : (h : ℕ) (ts : List Told) (ms : List Message) (s : State) → (host_at s h).queue ≡ ms → All Answerable (contents.messages s) → All Answerable (contents.messages (taken_by h ts ms s))
-taken_messages h (t ∷ others) ms s is all = set_queue Answerable s.hosts h (record (host_at s h) { answers = others }) all (at_host_all Answerable s.hosts h all)
+taken_messages h (t ∷ others) ms s is all = set_queue Answerable _ h _ all (at_host_all Answerable _ h all)
 taken_messages h [] (m ∷ others) s is all =
-    let waiting : All Answerable (m ∷ others) = subst (All Answerable) is (at_host_all Answerable s.hosts h all) in
-    replied_messages m (fated m.flow m.number fate.Taken (with_host s h (record (host_at s h) { queue = others }))) (set_queue Answerable s.hosts h (record (host_at s h) { queue = others }) all (All-tail Answerable m others waiting))
+    let waiting : All Answerable (m ∷ others) = subst (All Answerable) is (at_host_all Answerable _ h all) in
+    replied_messages m _ (set_queue Answerable _ h _ all (All-tail Answerable m others waiting))
 taken_messages h [] [] s is all = all
 
 -- ---- a call that is not refused, where these answers and messages wait
@@ -61,12 +61,12 @@ record IsTake (n : Net) (i : ℕ) (s : State) (k : ℕ) (ts : List Told) (ms : L
 take_only : (n : Net) (i : ℕ) (s : State) (k : ℕ) (ts : List Told) (ms : List Message) → IsTake n i s k ts ms → OnlyNew n (rfnm_for s ts ms) (with_turn i (to_host s k) n)
 take_only n i s k ts ms t =
     let P : PacketFields → Type 0 = Contains (packets n ++ rfnm_for s ts ms) in
-    turn_only n i s (to_host s k) (rfnm_for s ts ms) t.at
+    turn_only n i s _ _ t.at
     (λ has made. to_host_has P s k has
     (subst (λ (xs : List Told). All P (rfnm_for s xs (host_at s k).queue)) (sym t.answers) (subst (λ (xs : List Message). All P (rfnm_for s ts xs)) (sym t.queue) made)))
 
 take_messages : (n : Net) (i : ℕ) (s : State) (k : ℕ) (ts : List Told) (ms : List Message) → IsTake n i s k ts ms → IsSound n → All Answerable (contents.messages (to_host s k).state)
-take_messages n i s k ts ms t is = taken_messages k (host_at s k).answers (host_at s k).queue s refl (answerable n i s t.at is)
+take_messages n i s k ts ms t is = taken_messages k _ _ s refl (answerable n i s t.at is)
 
 -- ---- an answer is taken
 
@@ -97,20 +97,20 @@ take_answer n i s k t others ms take is =
     ∙ first_answer g t others (same_flow-refl g) in
     let change : Sender → Sender = λ f. record f { answers = rest } in
     let only : OnlyNew n [] (with_turn i (to_host s k) n) = take_only n i s k (t ∷ others) ms take in
-    followed_turn n i s (to_host s k) entries g (move ∷ []) [] (record {
+    followed_turn n i s (to_host s k) entries g _ [] (record {
       at = take.at;
       sound = to_host_imp i s k take.imp;
       others = moved.others;
-      crossings = answer_crosses n.hosts t.kind g n.log;
+      crossings = answer_crosses _ t.kind g n.log;
       only = only;
       of_flow = All-nil (λ (p : PacketFields). flow_of p ≡ g);
       formats = All-nil IsPacket;
-      answers = take_messages n i s k (t ∷ others) ms take is;
+      answers = take_messages n i s k _ ms take is;
       here =
-          makes_one move (view n g) (view next g) (Alive n g) (Alive next g) waits
-          (moved_view n i s (to_host s k) entries g (change (sender_at (imp_at n.imps g.source.imp) g)) (receiver_at (imp_at n.imps g.destination.imp) g) Box.Empty take.at
-          (source_changed change n.imps i s (to_host s k).state g take.at here moved.sender)
-          (destination_same n.imps i s (to_host s k).state g take.at moved.receiver)
+          makes_one move _ _ _ _ waits
+          (moved_view n i s (to_host s k) entries g _ _ Box.Empty take.at
+          (source_changed change n.imps i s _ g take.at here moved.sender)
+          (destination_same n.imps i s _ g take.at moved.receiver)
           (box_told t.kind g n.log))
           (λ x. alive_or_made n next [] (λ (y : Packet). ⊥) g x only (All-nil (λ (p : PacketFields). ⊥)));
       shown = answer_here t.kind g n.log;
@@ -170,25 +170,25 @@ take_from_far n i s k m others take far is =
     let still : sender (to_host s k).state g ≡ sender s g = moved.sender ∙ ap (λ (b : Bool). sender_told b release answer.Rfnm (sender s g)) far in
     let rfnm : PacketFields = answer_packet kind.Rfnm g m.number in
     let only : OnlyNew n (rfnm ∷ []) (with_turn i (to_host s k) n) =
-    subst (λ (b : Bool). OnlyNew n (cond b [] (rfnm ∷ [])) (with_turn i (to_host s k) n)) far (take_only n i s k [] (m ∷ others) take) in
-    let format : IsPacket rfnm = All-head Answerable m others (subst (All Answerable) take.queue (at_host_all Answerable s.hosts k (answerable n i s take.at is))) in
+    subst (λ (b : Bool). OnlyNew n (cond b [] (rfnm ∷ [])) (with_turn i (to_host s k) n)) far (take_only n i s k [] _ take) in
+    let format : IsPacket rfnm = All-head Answerable m others (subst (All Answerable) take.queue (at_host_all Answerable _ k (answerable n i s take.at is))) in
     let Told : Packet → Type 0 = IsTold Kind.Rfnm m.number in
-    followed_turn n i s (to_host s k) entries g (move ∷ []) (rfnm ∷ []) (record {
+    followed_turn n i s (to_host s k) entries g _ _ (record {
       at = take.at;
       sound = to_host_imp i s k take.imp;
       others = moved.others;
-      crossings = in_crosses n.hosts (host_message m) n.log;
+      crossings = in_crosses _ _ n.log;
       only = only;
       of_flow = All-cons (λ (p : PacketFields). flow_of p ≡ g) rfnm [] refl (All-nil (λ (p : PacketFields). flow_of p ≡ g));
       formats = All-cons IsPacket rfnm [] format (All-nil IsPacket);
-      answers = take_messages n i s k [] (m ∷ others) take is;
+      answers = take_messages n i s k [] _ take is;
       here =
-          makes_one move (view n g) (view next g) (Alive n g) (Alive next g) first.can
-          (moved_view n i s (to_host s k) entries g (sender_at (imp_at n.imps g.source.imp) g) (without_first others g (fated_with m.number fate.Taken (receiver_at (imp_at n.imps g.destination.imp) g))) (fetched (box_of g n.log)) take.at
-          (source_same n.imps i s (to_host s k).state g take.at still)
-          (destination_changed (λ (r : Receiver). without_first others g (fated_with m.number fate.Taken r)) n.imps i s (to_host s k).state g take.at first.here moved.receiver)
+          makes_one move _ _ _ _ first.can
+          (moved_view n i s (to_host s k) entries g _ _ _ take.at
+          (source_same n.imps i s _ g take.at still)
+          (destination_changed (λ (r : Receiver). without_first others g (fated_with m.number fate.Taken r)) n.imps i s _ g take.at first.here moved.receiver)
           (box_fetched m n.log)
-          ∙ taken_view (imp_is_up (imp_at n.imps g.source.imp)) (sender_at (imp_at n.imps g.source.imp) g) (imp_is_up (imp_at n.imps g.destination.imp)) (receiver_at (imp_at n.imps g.destination.imp) g) (fetched (box_of g n.log)) m.number g others)
+          ∙ taken_view _ _ _ (receiver_at (imp_at n.imps g.destination.imp) g) _ _ g others)
           (λ x. alive_or_made n next (rfnm ∷ []) Told g x only (All-cons (λ (p : PacketFields). Told (packet_of p)) rfnm [] (record { kind = refl; number = refl }) (All-nil (λ (p : PacketFields). Told (packet_of p)))));
       shown = in_here (host_message m) n.log;
       begun = inl refl;
@@ -205,8 +205,8 @@ take_from_here n i s k m others take near is =
     let first : IsFirst n i s k m others = is_first n i s k m others take in
     let home : g.source.imp ≡ i = eqb-true g.source.imp (number s) near ∙ take.imp.own in
     let at : imp_at n.imps g.source.imp ≡ Some s = ap (imp_at n.imps) home ∙ take.at in
-    let awaited : (view n g).outstanding ≡ Some m.number = queued_awaited (view n g) (Alive n g) (queued_of m) rest (is.flows.flows g).clauses (ap imp_is_up at) first.can.waits in
-    let frees : release_in m.number (finite.get s.sources g) ≡ release.Freed = freed_with (finite.get s.sources g) m.number (sym (ap (λ (o : Option State). (sender_at o g).outstanding) at) ∙ awaited) in
+    let awaited : (view n g).outstanding ≡ Some m.number = queued_awaited _ _ _ rest (is.flows.flows g).clauses (ap imp_is_up at) first.can.waits in
+    let frees : release_in m.number (finite.get s.sources g) ≡ release.Freed = freed_with _ _ (sym (ap (λ (o : Option State). (sender_at o g).outstanding) at) ∙ awaited) in
     let moved : Moved s (to_host s k).state g (sender_told (is_from_here s m) (release_in m.number (finite.get s.sources g)) answer.Rfnm (sender s g)) (without_first others g (fated_with m.number fate.Taken (receiver s g))) =
     message_taken s k m others take.up take.answers take.queue first.host in
     let ends : sender (to_host s k).state g ≡ ended_with answer.Rfnm (sender s g) =
@@ -214,27 +214,27 @@ take_from_here n i s k m others take near is =
     ∙ ap (λ (b : Bool). sender_told b (release_in m.number (finite.get s.sources g)) answer.Rfnm (sender s g)) near
     ∙ ap (λ (r : Release). sender_told true r answer.Rfnm (sender s g)) frees in
     let only : OnlyNew n [] (with_turn i (to_host s k) n) =
-    subst (λ (b : Bool). OnlyNew n (cond b [] (answer_packet kind.Rfnm g m.number ∷ [])) (with_turn i (to_host s k) n)) near (take_only n i s k [] (m ∷ others) take) in
-    let old : Follows Piece (taken_here (queued_of m) rest) (view n g) (view_taken_here (queued_of m) rest (view n g)) (Alive n g) (Alive n g) = take_here (view n g) (Alive n g) (queued_of m) rest first.can awaited in
-    followed_turn n i s (to_host s k) entries g (taken_here (queued_of m) rest) [] (record {
+    subst (λ (b : Bool). OnlyNew n (cond b [] (answer_packet kind.Rfnm g m.number ∷ [])) (with_turn i (to_host s k) n)) near (take_only n i s k [] _ take) in
+    let old : Follows Piece (taken_here (queued_of m) rest) (view n g) (view_taken_here (queued_of m) rest (view n g)) (Alive n g) (Alive n g) = take_here _ _ _ rest first.can awaited in
+    followed_turn n i s (to_host s k) entries g (taken_here _ rest) [] (record {
       at = take.at;
       sound = to_host_imp i s k take.imp;
       others = moved.others;
-      crossings = in_crosses n.hosts (host_message m) n.log;
+      crossings = in_crosses _ _ n.log;
       only = only;
       of_flow = All-nil (λ (p : PacketFields). flow_of p ≡ g);
       formats = All-nil IsPacket;
-      answers = take_messages n i s k [] (m ∷ others) take is;
+      answers = take_messages n i s k [] _ take is;
       here = record {
         needs = old.needs;
         view =
-            moved_view n i s (to_host s k) entries g (ended_with answer.Rfnm (sender_at (imp_at n.imps g.source.imp) g)) (without_first others g (fated_with m.number fate.Taken (receiver_at (imp_at n.imps g.destination.imp) g))) (fetched (box_of g n.log)) take.at
-            (source_changed (ended_with answer.Rfnm) n.imps i s (to_host s k).state g take.at home ends)
-            (destination_changed (λ (r : Receiver). without_first others g (fated_with m.number fate.Taken r)) n.imps i s (to_host s k).state g take.at first.here moved.receiver)
+            moved_view n i s (to_host s k) entries g _ _ _ take.at
+            (source_changed (ended_with answer.Rfnm) n.imps i s _ g take.at home ends)
+            (destination_changed (λ (r : Receiver). without_first others g (fated_with m.number fate.Taken r)) n.imps i s _ g take.at first.here moved.receiver)
             (box_fetched m n.log)
-            ∙ taken_view (imp_is_up (imp_at n.imps g.source.imp)) (ended_with answer.Rfnm (sender_at (imp_at n.imps g.source.imp) g)) (imp_is_up (imp_at n.imps g.destination.imp)) (receiver_at (imp_at n.imps g.destination.imp) g) (fetched (box_of g n.log)) m.number g others
+            ∙ taken_view _ _ _ (receiver_at (imp_at n.imps g.destination.imp) g) _ _ g others
             ∙ old.view;
-        packets = λ x a. old.packets x (only_old (Alive n g x) (alive_or_made n next [] (λ (y : Packet). ⊥) g x only (All-nil (λ (p : PacketFields). ⊥)) a));
+        packets = λ x a. old.packets x (only_old _ (alive_or_made n next [] (λ (y : Packet). ⊥) g x only (All-nil (λ (p : PacketFields). ⊥)) a));
       };
       shown = in_here (host_message m) n.log;
       begun = inl refl;
@@ -255,7 +255,7 @@ take_by n i s k [] (m ∷ others) take is = by (is_from_here s m) refl where
 take_by n i s k [] [] take is =
     let P : PacketFields → Type 0 = Contains (packets n) in
     let none : NothingNew n (with_turn i (to_host s k) n) =
-    turn_nothing n i s (to_host s k) take.at
+    turn_nothing n i s _ take.at
     (λ has. to_host_has P s k has
     (subst (λ (xs : List Told). All P (rfnm_for s xs (host_at s k).queue)) (sym take.answers) (subst (λ (xs : List Message). All P (rfnm_for s [] xs)) (sym take.queue) (All-nil P)))) in
     silent_turn n i s (to_host s k) take.at (nothing_taken s k take.answers take.queue) (to_host_imp i s k take.imp) (take_messages n i s k [] [] take is) none is
@@ -263,19 +263,19 @@ take_by n i s k [] [] take is =
 pub take_sound : (n : Net) (h : Host) → take_refusal n h ≡ None → IsSound n → IsSound (take_in n h)
 take_sound n h accepted is =
     let last : Option CarrierFault = at_up (imp_at n.imps h.imp) (λ s. to_host_refusal s h.host) in
-    let there : (not (is_host n.hosts h) ≡ false) × (last ≡ None) = guard (not (is_host n.hosts h)) fault.NoSuch last accepted in
+    let there : (not (is_host n.hosts h) ≡ false) × (last ≡ None) = guard _ _ last accepted in
     by (imp_at n.imps h.imp) refl there.1
   where
     up : (s : State) (k : ℕ) → to_host_refusal s k ≡ None → is_up s k ≡ true
     up s k own =
         let full : Option CarrierFault = cond (taking_has_room (host_at s k).answers (host_at s k).queue s) None (Some fault.NoRoom) in
         let down : Option CarrierFault = events.first_of (not (is_up s k)) fault.IsDown full in
-        let here : (not (is_there s k) ≡ false) × (down ≡ None) = guard (not (is_there s k)) fault.NoSuch down own in
-        let live : (not (is_up s k) ≡ false) × (full ≡ None) = guard (not (is_up s k)) fault.IsDown full here.1 in
+        let here : (not (is_there s k) ≡ false) × (down ≡ None) = guard _ _ down own in
+        let live : (not (is_up s k) ≡ false) × (full ≡ None) = guard _ _ full here.1 in
         not_false (is_up s k) live.0
 
     by : (o : Option State) → imp_at n.imps h.imp ≡ o → at_up o (λ s. to_host_refusal s h.host) ≡ None → IsSound (logging (crossings_of (given_at o h.host)) (at_imp o h.imp (λ s. to_host s h.host) n))
     by None at own = absurd (cc)
     by (Some s) at own =
-        take_by n h.imp s h.host (host_at s h.host).answers (host_at s h.host).queue
+        take_by n h.imp s h.host _ _
         (record { at = at; up = up s h.host own; imp = subst (IsAt h.imp) at (is.imps h.imp); answers = refl; queue = refl }) is

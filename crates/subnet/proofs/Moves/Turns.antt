@@ -24,14 +24,14 @@ turn_only n i s turn made at has =
     let old : All P (packets n) = All-weaker (Contains (packets n)) P (λ p there. Contains-append_left (packets n) made p there) (packets n) (All-contains_itself (packets n)) in
     let new : All P made = All-weaker (Contains made) P (λ p there. Contains-append_right (packets n) made p there) made (All-contains_itself made) in
     let h : NetHas P n = packets_net P n old in
-    net_packets P (with_turn i turn n) (with_turn_has P i turn n h (has (subst (ImpHas P) at (imp_has P n.imps i h.imps)) new))
+    net_packets P _ (with_turn_has P i turn n h (has (subst (ImpHas P) at (imp_has P n.imps i h.imps)) new))
 
 -- a turn that makes none
 pub turn_nothing : (n : Net) (i : ℕ) (s : State) (turn : ImpTurn) → imp_at n.imps i ≡ Some s → (Has (Contains (packets n)) s → TurnHas (Contains (packets n)) turn) → NothingNew n (with_turn i turn n)
 turn_nothing n i s turn at has =
     let P : PacketFields → Type 0 = Contains (packets n) in
     let h : NetHas P n = net_itself n in
-    net_packets P (with_turn i turn n) (with_turn_has P i turn n h (has (subst (ImpHas P) at (imp_has P n.imps i h.imps))))
+    net_packets P _ (with_turn_has P i turn n h (has (subst (ImpHas P) at (imp_has P n.imps i h.imps))))
 
 -- what is alive of a flow was alive before, or is a packet that was made
 pub alive_or_made : (n m : Net) (made : List PacketFields) (Made : Packet → Type 0) (f : Flow) (x : Packet) → OnlyNew n made m → All (λ p. Made (packet_of p)) made → Alive m f x → Alive n f x ⊎ Made x
@@ -60,17 +60,17 @@ Answerable q = IsPacket (answer_packet kind.Rfnm q.flow q.number)
 
 pub set_queue : (P : Message → Type 0) (hosts : List HostState) (h : ℕ) (x : HostState) → All P (flat_map (λ (y : HostState). y.queue) hosts) → All P x.queue → All P (flat_map (λ (y : HostState). y.queue) (set hosts h x))
 set_queue P [] h x all new = all
-set_queue P (y ∷ hosts) zero x all new = All-append P x.queue (flat_map (λ (z : HostState). z.queue) hosts) new (parts_right P y.queue (flat_map (λ (z : HostState). z.queue) hosts) all)
+set_queue P (y ∷ hosts) zero x all new = All-append P x.queue (flat_map (λ (z : HostState). z.queue) hosts) new (parts_right P _ _ all)
 set_queue P (y ∷ hosts) (suc h) x all new =
-    All-append P y.queue (flat_map (λ (z : HostState). z.queue) (set hosts h x)) (parts_left P y.queue (flat_map (λ (z : HostState). z.queue) hosts) all)
-    (set_queue P hosts h x (parts_right P y.queue (flat_map (λ (z : HostState). z.queue) hosts) all) new)
+    All-append P y.queue (flat_map (λ (z : HostState). z.queue) (set hosts h x)) (parts_left P _ _ all)
+    (set_queue P hosts h x (parts_right P _ _ all) new)
 
 pub set_messages : (P : Message → Type 0) (imps : List (Option State)) (i : ℕ) (t : State) → All P (flat_map messages_at_imp imps) → All P (contents.messages t) → All P (flat_map messages_at_imp (slice_set imps i (Some t)))
 set_messages P [] i t all new = all
-set_messages P (o ∷ imps) zero t all new = All-append P (contents.messages t) (flat_map messages_at_imp imps) new (parts_right P (messages_at_imp o) (flat_map messages_at_imp imps) all)
+set_messages P (o ∷ imps) zero t all new = All-append P (contents.messages t) (flat_map messages_at_imp imps) new (parts_right P _ _ all)
 set_messages P (o ∷ imps) (suc i) t all new =
-    All-append P (messages_at_imp o) (flat_map messages_at_imp (slice_set imps i (Some t))) (parts_left P (messages_at_imp o) (flat_map messages_at_imp imps) all)
-    (set_messages P imps i t (parts_right P (messages_at_imp o) (flat_map messages_at_imp imps) all) new)
+    All-append P (messages_at_imp o) (flat_map messages_at_imp (slice_set imps i (Some t))) (parts_left P _ _ all)
+    (set_messages P imps i t (parts_right P _ _ all) new)
 
 -- ---- the view of the flow that moves
 
@@ -84,7 +84,7 @@ pub source_changed : (change : Sender → Sender) (imps : List (Option State)) (
     → sender_at (imp_at (slice_set imps i (Some t)) g.source.imp) g ≡ change (sender_at (imp_at imps g.source.imp) g)
 source_changed change imps i s t g at here moved =
     ap (λ (k : ℕ). sender_at (imp_at (slice_set imps i (Some t)) k) g) here
-    ∙ ap (λ (o : Option State). sender_at o g) (set_here imps i (Some t) s at)
+    ∙ ap (λ (o : Option State). sender_at o g) (set_here imps i _ s at)
     ∙ moved
     ∙ ap (λ (o : Option State). change (sender_at o g)) (sym at)
     ∙ ap (λ (k : ℕ). change (sender_at (imp_at imps k) g)) (sym here)
@@ -96,7 +96,7 @@ pub destination_changed : (change : Receiver → Receiver) (imps : List (Option 
     → receiver_at (imp_at (slice_set imps i (Some t)) g.destination.imp) g ≡ change (receiver_at (imp_at imps g.destination.imp) g)
 destination_changed change imps i s t g at here moved =
     ap (λ (k : ℕ). receiver_at (imp_at (slice_set imps i (Some t)) k) g) here
-    ∙ ap (λ (o : Option State). receiver_at o g) (set_here imps i (Some t) s at)
+    ∙ ap (λ (o : Option State). receiver_at o g) (set_here imps i _ s at)
     ∙ moved
     ∙ ap (λ (o : Option State). change (receiver_at o g)) (sym at)
     ∙ ap (λ (k : ℕ). change (receiver_at (imp_at imps k) g)) (sym here)
@@ -113,12 +113,12 @@ pub moved_view : (n : Net) (i : ℕ) (s : State) (turn : ImpTurn) (entries : Lis
     → view (logging entries (with_turn i turn n)) g ≡ view_of (imp_is_up (imp_at n.imps g.source.imp)) from (imp_is_up (imp_at n.imps g.destination.imp)) to box
 moved_view n i s turn entries g from to box at source destination boxes =
     let imps : List (Option State) = slice_set n.imps i (Some turn.state) in
-    let from_up : imp_is_up (imp_at imps g.source.imp) ≡ imp_is_up (imp_at n.imps g.source.imp) = same_at imp_is_up n.imps i g.source.imp (Some turn.state) None (ap imp_is_up (sym at)) in
-    let to_up : imp_is_up (imp_at imps g.destination.imp) ≡ imp_is_up (imp_at n.imps g.destination.imp) = same_at imp_is_up n.imps i g.destination.imp (Some turn.state) None (ap imp_is_up (sym at)) in
+    let from_up : imp_is_up (imp_at imps g.source.imp) ≡ imp_is_up (imp_at n.imps g.source.imp) = same_at imp_is_up n.imps i _ _ None (ap imp_is_up (sym at)) in
+    let to_up : imp_is_up (imp_at imps g.destination.imp) ≡ imp_is_up (imp_at n.imps g.destination.imp) = same_at imp_is_up n.imps i _ _ None (ap imp_is_up (sym at)) in
     same_parts
-    (imp_is_up (imp_at imps g.source.imp)) (imp_is_up (imp_at n.imps g.source.imp)) (sender_at (imp_at imps g.source.imp) g) from
-    (imp_is_up (imp_at imps g.destination.imp)) (imp_is_up (imp_at n.imps g.destination.imp)) (receiver_at (imp_at imps g.destination.imp) g) to
-    (box_of g (entries ++ n.log)) box from_up source to_up destination boxes
+    _ _ _ from
+    _ _ _ to
+    _ box from_up source to_up destination boxes
   where
     same_parts : (u v : Bool) (a b : Sender) (w x : Bool) (q r : Receiver) (c d : Box) → u ≡ v → a ≡ b → w ≡ x → q ≡ r → c ≡ d → view_of u a w q c ≡ view_of v b x r d
     same_parts u v a b w x q r c d e f g h k = rw (e, f, g, h, k) refl
@@ -173,7 +173,7 @@ followed_turn n i s turn entries g moves made t is =
       | inr asked ↦ asked
     ] in
     record {
-      flows = one_follows n.hosts entries n.log g moves (view n) (view m) (Alive n) (Alive m) t.crossings.ups (record {
+      flows = one_follows _ entries n.log g moves _ _ _ _ t.crossings.ups (record {
         here = t.here;
         shown = t.shown;
         view = still;
@@ -182,7 +182,7 @@ followed_turn n i s turn entries g moves made t is =
       }) is.flows;
       imps = λ k. at_set IsAt n.imps i k (Some turn.state) None (is.imps k) t.sound;
       formats = All-weaker (Contains (packets n ++ made)) IsPacket (λ p there. All-contains IsPacket (packets n ++ made) p all there) (packets m) t.only;
-      answers = set_messages Answerable n.imps i turn.state is.answers t.answers;
+      answers = set_messages Answerable n.imps i _ is.answers t.answers;
       askable = λ f. elim (cases_Bool (same_flow f g)) [
         | inl same ↦ subst (Askable m) (sym (same_flow-true f g same)) here
         | inr other ↦ same_askable n m f (still f other) is
@@ -197,10 +197,10 @@ pub silent_turn : (n : Net) (i : ℕ) (s : State) (turn : ImpTurn) → imp_at n.
 silent_turn n i s turn at still imp answers among is =
     let m : Net = with_turn i turn n in
     record {
-      flows = silent_follows n.hosts n.log (view n) (view m) (Alive n) (Alive m) (λ f. turn_view n i s turn f at (still f)) (λ f x. alive_less n m f x among) is.flows;
+      flows = silent_follows _ n.log _ _ _ _ (λ f. turn_view n i s turn f at (still f)) (λ f x. alive_less n m f x among) is.flows;
       imps = λ k. at_set IsAt n.imps i k (Some turn.state) None (is.imps k) imp;
       formats = formats_less n m among is.formats;
-      answers = set_messages Answerable n.imps i turn.state is.answers answers;
+      answers = set_messages Answerable n.imps i _ is.answers answers;
       askable = λ f. same_askable n m f (turn_view n i s turn f at (still f)) is;
     }
 

@@ -1,5 +1,5 @@
 -- What is so of each flow after a call of one IMP.
-use Rattle.subnet.proofs.Common.{◌≡◌, ℕ, zero, suc, Bool, List, [], ◌∷◌, ◌++◌, Option, Some, None, refl, ap, sym, ◌∙◌, Contains, slice_set, flat_map, All-contains, Box, box_of, Flow, Packet, Message, State, HostState, ImpTurn, Sender, Receiver, Unmoved, same_at, Net, imp_at, with_turn, packets, messages_at_imp, Alive, imp_is_up, sender_at, receiver_at, view_of, view, NothingNew}
+use Rattle.subnet.proofs.Common.{◌≡◌, ℕ, zero, suc, Bool, List, [], ◌∷◌, ◌++◌, Option, Some, None, refl, ap, sym, ◌∙◌, Contains, slice_set, flat_map, All-contains, Box, Flow, Packet, Message, State, HostState, ImpTurn, Sender, Receiver, Unmoved, same_at, Net, imp_at, with_turn, packets, messages_at_imp, Alive, imp_is_up, sender_at, receiver_at, view_of, view, NothingNew}
 use Rattle.imp_node.specs.Contents as imp
 
 -- two views with the same parts
@@ -11,14 +11,14 @@ pub turn_view : (n : Net) (i : ℕ) (s : State) (turn : ImpTurn) (f : Flow) → 
 turn_view n i s turn f at still =
     let imps : List (Option State) = slice_set n.imps i (Some turn.state) in
     view_parts
-    (imp_is_up (imp_at imps f.source.imp)) (imp_is_up (imp_at n.imps f.source.imp))
-    (sender_at (imp_at imps f.source.imp) f) (sender_at (imp_at n.imps f.source.imp) f)
-    (imp_is_up (imp_at imps f.destination.imp)) (imp_is_up (imp_at n.imps f.destination.imp))
-    (receiver_at (imp_at imps f.destination.imp) f) (receiver_at (imp_at n.imps f.destination.imp) f)
-    (box_of f n.log)
-    (same_at imp_is_up n.imps i f.source.imp (Some turn.state) None (ap imp_is_up (sym at)))
+    _ _
+    _ _
+    _ _
+    _ _
+    _
+    (same_at imp_is_up n.imps i _ (Some turn.state) None (ap imp_is_up (sym at)))
     (same_at (λ (o : Option State). sender_at o f) n.imps i f.source.imp (Some turn.state) None (still.sender ∙ ap (λ (o : Option State). sender_at o f) (sym at)))
-    (same_at imp_is_up n.imps i f.destination.imp (Some turn.state) None (ap imp_is_up (sym at)))
+    (same_at imp_is_up n.imps i _ (Some turn.state) None (ap imp_is_up (sym at)))
     (same_at (λ (o : Option State). receiver_at o f) n.imps i f.destination.imp (Some turn.state) None (still.receiver ∙ ap (λ (o : Option State). receiver_at o f) (sym at)))
 
 -- where nothing is new, what is alive of a flow was alive before

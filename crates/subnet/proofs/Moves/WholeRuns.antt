@@ -1,5 +1,5 @@
 -- Whatever happens from the opening on, the subnet is sound, and so its log is a run of the mailboxes.
-use Rattle.subnet.proofs.Common.{◌≡◌, ℕ, ◌+◌, ◌≤◌, List, [], ◌∷◌, length, Option, Some, None, refl, subst, ◌∙◌, Host, most_imps, IsRun, CarrierFault, NetEvent, HostMessage, sound_run, Net, quiet_round, Alive, view, Ends, AreHosts, opening_subnet, IsSound}
+use Rattle.subnet.proofs.Common.{◌≡◌, ℕ, ◌+◌, ◌≤◌, List, [], ◌∷◌, length, Option, Some, None, refl, subst, ◌∙◌, Host, most_imps, IsRun, CarrierFault, NetEvent, HostMessage, sound_run, Net, quiet_round, Ends, AreHosts, opening_subnet, IsSound}
 use Rattle.subnet.specs.Routed.{IsHostMessage, IsRouted}
 use Rattle.subnet.specs.Run.{Call, Offer, Take, Happen, Round, refusal, net_after, done_by, ran, OffersMessages}
 use Rattle.subnet.proofs.Moves.EventSteps.{step_sound}
@@ -49,16 +49,16 @@ rounded hosts n is = record { same = (round_same n).hosts ∙ is.same; sound = q
 
 ran_whole : (hosts : List Host) (n : Net) (calls : List Call) → OffersMessages calls → IsWhole hosts n → IsWhole hosts (ran calls n)
 ran_whole hosts n [] messages is = is
-ran_whole hosts n (Offer m ∷ calls) messages is = offered hosts (ran calls n) m messages.0 (ran_whole hosts n calls messages.1 is)
-ran_whole hosts n (Take h ∷ calls) messages is = taken hosts (ran calls n) h (ran_whole hosts n calls messages is)
-ran_whole hosts n (Happen e ∷ calls) messages is = happened hosts (ran calls n) e (ran_whole hosts n calls messages is)
-ran_whole hosts n (Round ∷ calls) messages is = rounded hosts (ran calls n) (ran_whole hosts n calls messages is)
+ran_whole hosts n (Offer m ∷ calls) messages is = offered hosts _ m messages.0 (ran_whole hosts n calls messages.1 is)
+ran_whole hosts n (Take h ∷ calls) messages is = taken hosts _ h (ran_whole hosts n calls messages is)
+ran_whole hosts n (Happen e ∷ calls) messages is = happened hosts _ e (ran_whole hosts n calls messages is)
+ran_whole hosts n (Round ∷ calls) messages is = rounded hosts _ (ran_whole hosts n calls messages is)
 
 -- ---- from the opening on
 
 opened_whole : (hosts : List Host) (sites : List (Option ℕ)) (ends : List Ends) (calls : List Call) → AreHosts hosts sites → length sites ≤ most_imps + 1 → OffersMessages calls → IsWhole hosts (ran calls (opening_subnet hosts sites ends))
 opened_whole hosts sites ends calls are few messages =
-    ran_whole hosts (opening_subnet hosts sites ends) calls messages (record { same = refl; sound = opening_sound hosts sites ends are; routed = opening_routed hosts sites ends few })
+    ran_whole hosts _ calls messages (record { same = refl; sound = opening_sound hosts sites ends are; routed = opening_routed hosts sites ends few })
 
 pub always_sound : (hosts : List Host) (sites : List (Option ℕ)) (ends : List Ends) (calls : List Call) → AreHosts hosts sites → length sites ≤ most_imps + 1 → OffersMessages calls → IsSound (ran calls (opening_subnet hosts sites ends))
 always_sound hosts sites ends calls are few messages = (opened_whole hosts sites ends calls are few messages).sound
@@ -67,4 +67,4 @@ pub always_run : (hosts : List Host) (sites : List (Option ℕ)) (ends : List En
 always_run hosts sites ends calls are few messages =
     let n : Net = ran calls (opening_subnet hosts sites ends) in
     let is : IsWhole hosts n = opened_whole hosts sites ends calls are few messages in
-    subst (λ (hs : List Host). IsRun hs n.log) is.same (sound_run n.hosts n.log (view n) (Alive n) is.sound.flows)
+    subst (λ (hs : List Host). IsRun hs n.log) is.same (sound_run _ n.log _ _ is.sound.flows)

@@ -39,36 +39,36 @@ content_has P content.Nothing all = tt
 content_has P (content.Routes distances) all = tt
 
 pub frame_packets : (P : PacketFields → Type 0) (f : Frame) → FrameHas P f → All P (carried_by f.content)
-frame_packets P f has = content_packets P f.content has
+frame_packets P f has = content_packets P _ has
 
 frames_packets : (P : PacketFields → Type 0) (frames : List Frame) → FramesHave P frames → All P (packets_on frames)
 frames_packets P [] has = All-nil P
 frames_packets P (f ∷ frames) has =
-    All-append P (carried_by f.content) (packets_on frames) (content_packets P f.content (All-head (FrameHas P) f frames has)) (frames_packets P frames (All-tail (FrameHas P) f frames has))
+    All-append P (carried_by f.content) (packets_on frames) (content_packets P _ (All-head (FrameHas P) f frames has)) (frames_packets P frames (All-tail (FrameHas P) f frames has))
 
 frames_have : (P : PacketFields → Type 0) (frames : List Frame) → All P (packets_on frames) → FramesHave P frames
 frames_have P [] all = All-nil (FrameHas P)
 frames_have P (f ∷ frames) all =
-    All-cons (FrameHas P) f frames (content_has P f.content (All_left P (carried_by f.content) (packets_on frames) all)) (frames_have P frames (All_right P (carried_by f.content) (packets_on frames) all))
+    All-cons (FrameHas P) f frames (content_has P _ (All_left P _ _ all)) (frames_have P frames (All_right P _ _ all))
 
 wires_packets : (P : PacketFields → Type 0) (lines : List Wire) → All (WireHas P) lines → All P (flat_map packets_on_wire lines)
 wires_packets P [] has = All-nil P
 wires_packets P (w ∷ ws) has =
     let here : WireHas P w = All-head (WireHas P) w ws has in
     All-append P (packets_on_wire w) (flat_map packets_on_wire ws)
-    (All-append P (packets_on w.forward) (packets_on w.back) (frames_packets P w.forward here.forward) (frames_packets P w.back here.back))
+    (All-append P (packets_on w.forward) (packets_on w.back) (frames_packets P _ here.forward) (frames_packets P w.back here.back))
     (wires_packets P ws (All-tail (WireHas P) w ws has))
 
 wires_have : (P : PacketFields → Type 0) (lines : List Wire) → All P (flat_map packets_on_wire lines) → All (WireHas P) lines
 wires_have P [] all = All-nil (WireHas P)
 wires_have P (w ∷ ws) all =
-    let here : All P (packets_on_wire w) = All_left P (packets_on_wire w) (flat_map packets_on_wire ws) all in
+    let here : All P (packets_on_wire w) = All_left P _ _ all in
     All-cons (WireHas P) w ws
     (record {
-      forward = frames_have P w.forward (All_left P (packets_on w.forward) (packets_on w.back) here);
-      back = frames_have P w.back (All_right P (packets_on w.forward) (packets_on w.back) here);
+      forward = frames_have P _ (All_left P _ _ here);
+      back = frames_have P w.back (All_right P _ _ here);
     })
-    (wires_have P ws (All_right P (packets_on_wire w) (flat_map packets_on_wire ws) all))
+    (wires_have P ws (All_right P _ _ all))
 
 imp_packets : (P : PacketFields → Type 0) (o : Option State) → ImpHas P o → All P (packets_at_imp o)
 imp_packets P None has = All-nil P
@@ -86,20 +86,20 @@ one_imp_has P (Some s) all = has_packets P s all
 imps_have : (P : PacketFields → Type 0) (imps : List (Option State)) → All P (flat_map packets_at_imp imps) → All (ImpHas P) imps
 imps_have P [] all = All-nil (ImpHas P)
 imps_have P (o ∷ imps) all =
-    All-cons (ImpHas P) o imps (one_imp_has P o (All_left P (packets_at_imp o) (flat_map packets_at_imp imps) all)) (imps_have P imps (All_right P (packets_at_imp o) (flat_map packets_at_imp imps) all))
+    All-cons (ImpHas P) o imps (one_imp_has P o (All_left P _ _ all)) (imps_have P imps (All_right P _ _ all))
 
 pub net_packets : (P : PacketFields → Type 0) (n : Net) → NetHas P n → All P (packets n)
-net_packets P n h = All-append P (flat_map packets_at_imp n.imps) (flat_map packets_on_wire n.lines) (imps_packets P n.imps h.imps) (wires_packets P n.lines h.lines)
+net_packets P n h = All-append P (flat_map packets_at_imp n.imps) (flat_map packets_on_wire n.lines) (imps_packets P n.imps h.imps) (wires_packets P _ h.lines)
 
 pub packets_net : (P : PacketFields → Type 0) (n : Net) → All P (packets n) → NetHas P n
 packets_net P n all = record {
-  imps = imps_have P n.imps (All_left P (flat_map packets_at_imp n.imps) (flat_map packets_on_wire n.lines) all);
-  lines = wires_have P n.lines (All_right P (flat_map packets_at_imp n.imps) (flat_map packets_on_wire n.lines) all);
+  imps = imps_have P n.imps (All_left P _ _ all);
+  lines = wires_have P _ (All_right P _ _ all);
 }
 
 -- each packet of a subnet is one of its packets
 pub net_itself : (n : Net) → NetHas (Contains (packets n)) n
-net_itself n = packets_net (Contains (packets n)) n (All-contains_itself (packets n))
+net_itself n = packets_net _ n (All-contains_itself (packets n))
 
 pub net_at : (P : PacketFields → Type 0) (n : Net) → NetHas P n → (p : PacketFields) → Contains (packets n) p → P p
 net_at P n h p there = All-contains P (packets n) p (net_packets P n h) there
@@ -126,10 +126,10 @@ got_has P (f ∷ frames) (suc k) has = got_has P frames k (All-tail (FrameHas P)
 pub with_turn_has : (P : PacketFields → Type 0) (i : ℕ) (turn : ImpTurn) (n : Net) → NetHas P n → TurnHas P turn → NetHas P (with_turn i turn n)
 with_turn_has P i turn n h t = record {
   imps = All-set (ImpHas P) n.imps i (Some turn.state) t.state h.imps;
-  lines = put_all_holds (FrameHas P) n.lines i turn.frames h.lines t.frames;
+  lines = put_all_holds _ _ i _ h.lines t.frames;
 }
 
 -- ---- a frame is dropped
 
 pub dropped_has : (P : PacketFields → Type 0) (n : Net) (l : ℕ) (d : Direction) (k : ℕ) → NetHas P n → NetHas P (drop_frame n l d k)
-dropped_has P n l d k h = record { imps = h.imps; lines = dropped_holds (FrameHas P) n.lines l d k h.lines }
+dropped_has P n l d k h = record { imps = h.imps; lines = dropped_holds _ _ l d k h.lines }

@@ -1,5 +1,5 @@
 -- Distances are sent of the subnet's IMPs only.
-use Rattle.subnet.proofs.Common.{Flow, Answer, Crossing, Direction, NetEvent, HostMessage, Release, PacketKind, Channel, ChannelFault, Content, Frame, Received, Outgoing, Port, Message, Told, State, ImpTurn, number, host_at, with_host, port_at, answered_by, fated, Way, Nowhere, Here, Away, way_of, offered, from_host, on_port, resent_by, resent_from, resend, told_by, told_from, route, end_down, end_up, asked_by, ask, outstanding, give_up, forget, abandon, message_returned, all_returned, stopped, host_down, host_up, is_from_here, reply_has_room, replied, taken_by, to_host, Net, Wire, imp_at, wire_at, ends_at, port_of, put_all, with_turn, frames_on, far_end, dropping, at_imp, logging, offer_out, crossings_of, take_in, delivered, deliver, drop_frame, quiet_round, host_stopped, host_started, started_imp, hosts_at, site_at, imp_stopped, imp_started, downs_at, stepped, IsCarriable, CanGo, CanGoFrom, Ends, empty_wire, opened_imp, opened_from, opening_subnet, IsAt, IsSound}
+use Rattle.subnet.proofs.Common.{Flow, Answer, Crossing, Direction, NetEvent, HostMessage, Release, PacketKind, Channel, ChannelFault, Content, Frame, Received, Outgoing, Port, Message, Told, State, ImpTurn, number, host_at, port_at, answered_by, fated, Way, Nowhere, Here, Away, way_of, offered, from_host, on_port, resent_by, resent_from, resend, told_by, told_from, route, claim, end_down, asked_by, ask, outstanding, message_returned, all_returned, stopped, host_down, replied, taken_by, to_host, Net, Wire, imp_at, wire_at, ends_at, port_of, with_turn, frames_on, far_end, at_imp, logging, offer_out, take_in, delivered, deliver, drop_frame, quiet_round, host_stopped, host_started, started_imp, hosts_at, site_at, imp_stopped, imp_started, downs_at, stepped, IsCarriable, CanGo, CanGoFrom, Ends, empty_wire, opened_imp, opened_from, opening_subnet, IsAt, IsSound}
 use Rattle.std.proofs.Common.{◌≡◌, ℕ, zero, suc, ◌+◌, ◌-◌, ◌<◌, ◌≤◌, ◌==◌, Bool, true, false, List, [], ◌∷◌, length, map, min, Option, Some, None, Result, Ok, Err, refl, ap, sym, ◌∙◌, subst, inl, inr, eqb-true, eq-eqb, cond, arith, All, if◌then◌else◌}
 use Rattle.std.specs.Prelude.{is_some, slice_get, slice_set, count_by}
 use Rattle.std.proofs.lemmas.Bool.{cases_Bool, cases_lt}
@@ -16,13 +16,13 @@ use Rattle.imp_channel.specs.Line.{End, answer_to, is_foreign, brought, has_expe
 use Rattle.imp_channel.specs.declared.fault.ChannelFault.TheVariants as refused
 use Rattle.imp_channel.specs.declared.frame.Content.TheVariants as content
 use Rattle.imp_channel.specs.declared.line.Received.TheVariants as received
-use Rattle.routing.specs.RouteTable.{Table, heard_distance, least_heard, distance_to, next_of, vector_of}
+use Rattle.routing.specs.RouteTable.{Table, heard_distance, least_heard, distance_to, next_of}
 use Rattle.routing.specs.Vector.{infinite, IsVector}
 use Rattle.routing.proofs.lemmas.{distance-other, next-nowhere, vector-is}
 use Rattle.imp_node.specs.Room.{has_route}
 use Rattle.link_table.specs.declared.destination.Fate.TheVariants as fate
 use Rattle.imp_node.specs.Arrival as arrivals
-use Rattle.imp_node.specs.Arrival.{Arrival, Passing, Old, Undeliverable, Replying, Piece, NoSlot, Unmarked, Answering, arrival, arrived, arrival_has_room, frame_taken, acknowledged, vector_heard, ignored, taken_frame, from_line}
+use Rattle.imp_node.specs.Arrival.{Arrival, Passing, Old, Undeliverable, Replying, Piece, NoSlot, Unmarked, Answering, arrival, arrived, frame_taken, acknowledged, vector_heard, ignored, taken_frame, from_line}
 use Rattle.imp_node.specs.Pump.{Pumped, target, sent_on, packet_sent, pumped, pump}
 use Rattle.subnet.specs.Events as events
 use Rattle.subnet.specs.Routed.{TellsVector, FrameTells, WireTells, HeardVector, ImpHeard, IsRouted, IsHostMessage}
@@ -47,16 +47,16 @@ sent_on_tells ports k p e (Some c) = All-cons OutTells _ [] tt (All-nil OutTells
 sent_tells : (ports : List Port) (p : PacketFields) (next : Option ℕ) → All OutTells (packet_sent ports p next).frames
 unfolding submitted
 sent_tells ports p None = All-nil OutTells
-sent_tells ports p (Some k) = sent_on_tells ports k p (port_at ports k).line _
+sent_tells ports p (Some k) = sent_on_tells ports k p _ _
 
 pumped_tells : (routes : Table) (ports : List Port) (ps : List PacketFields) → All OutTells (pumped routes ports ps).frames
 pumped_tells routes ports [] = All-nil OutTells
 pumped_tells routes ports (p ∷ ps) =
     let one : Pumped = packet_sent ports p (next_of routes (target p)) in
-    All-append OutTells one.frames (pumped routes one.ports ps).frames (sent_tells ports p (next_of routes (target p))) (pumped_tells routes one.ports ps)
+    All-append OutTells one.frames (pumped routes one.ports ps).frames (sent_tells ports p _) (pumped_tells routes one.ports ps)
 
 pump_tells : (frames : List Outgoing) (s : State) → All OutTells frames → All HeardVector s.routes.heard → TurnTells (pump frames s)
-pump_tells frames s told here = record { heard = here; frames = All-append OutTells frames (pumped s.routes s.ports s.store).frames told (pumped_tells s.routes s.ports s.store) }
+pump_tells frames s told here = record { heard = here; frames = All-append OutTells frames (pumped s.routes s.ports s.store).frames told (pumped_tells _ _ _) }
 
 quiet_tells : (s : State) → All HeardVector s.routes.heard → TurnTells (pump [] s)
 quiet_tells s here = pump_tells [] s (All-nil OutTells) here
@@ -72,7 +72,7 @@ either_routes true s t u e h = e
 either_routes false s t u e h = h
 
 replied_routes : (k : Answer) (packet : PacketKind) (m : Message) (s : State) → (replied k packet m s).routes ≡ s.routes
-replied_routes k packet m s = either_routes (is_from_here s m) s _ _ (answered_routes _ k m.flow m.number s) refl
+replied_routes k packet m s = either_routes _ s _ _ (answered_routes _ k m.flow _ s) refl
 
 arrived_routes : (a : Arrival) (p : PacketFields) (s : State) → (arrived a p s).routes ≡ s.routes
 arrived_routes Passing p s = refl
@@ -83,7 +83,7 @@ arrived_routes Piece p s = refl
 arrived_routes NoSlot p s = refl
 arrived_routes (arrivals.Whole text) p s = refl
 arrived_routes Unmarked p s = refl
-arrived_routes (Answering k) p s = answered_routes _ k _ p.number s
+arrived_routes (Answering k) p s = answered_routes _ k _ _ s
 
 asked_routes : (o : Option ℕ) (f : Flow) (s : State) → (asked_by o f s).routes ≡ s.routes
 asked_routes None f s = refl
@@ -96,31 +96,31 @@ offered_routes Away m s = refl
 
 taken_by_routes : (h : ℕ) (ts : List Told) (ms : List Message) (s : State) → (taken_by h ts ms s).routes ≡ s.routes
 taken_by_routes h (t ∷ others) ms s = refl
-taken_by_routes h [] (m ∷ others) s = replied_routes answer.Rfnm kind.Rfnm m (fated m.flow m.number fate.Taken (with_host s h (record (host_at s h) { queue = others })))
+taken_by_routes h [] (m ∷ others) s = replied_routes _ kind.Rfnm m _
 taken_by_routes h [] [] s = refl
 
 all_returned_routes : (ms : List Message) (s : State) → (all_returned ms s).routes ≡ s.routes
 all_returned_routes [] s = refl
 all_returned_routes (m ∷ others) s =
     let t : State = fated m.flow m.number fate.Dead s in
-    all_returned_routes others (message_returned m s) ∙ either_routes (reply_has_room t m) s (replied answer.Dead kind.Dead m t) t (replied_routes answer.Dead kind.Dead m t) refl
+    all_returned_routes others (message_returned m s) ∙ either_routes _ s (replied answer.Dead kind.Dead m t) t (replied_routes _ kind.Dead m t) refl
 
 -- a call that leaves what was heard
 same_heard : (s t : State) → t.routes ≡ s.routes → All HeardVector s.routes.heard → All HeardVector t.routes.heard
 same_heard s t same here = subst (λ (r : Table). All HeardVector r.heard) (sym same) here
 
 from_host_tells : (m : HostMessage) (s : State) → All HeardVector s.routes.heard → TurnTells (from_host s m)
-from_host_tells m s here = quiet_tells (offered (way_of s m.flow) m s) (same_heard s (offered (way_of s m.flow) m s) (offered_routes (way_of s m.flow) m s) here)
+from_host_tells m s here = quiet_tells _ (same_heard s (offered _ m s) (offered_routes _ m s) here)
 
 ask_tells : (f : Flow) (s : State) → All HeardVector s.routes.heard → TurnTells (ask s f)
 ask_tells f s here =
     let t : State = asked_by (outstanding s f) f s in
-    quiet_tells t (same_heard s t (asked_routes (outstanding s f) f s) here)
+    quiet_tells t (same_heard s t (asked_routes _ f s) here)
 
 to_host_tells : (h : ℕ) (s : State) → All HeardVector s.routes.heard → TurnTells (to_host s h)
 to_host_tells h s here =
-    let t : State = taken_by h (host_at s h).answers (host_at s h).queue s in
-    quiet_tells t (same_heard s t (taken_by_routes h (host_at s h).answers (host_at s h).queue s) here)
+    let t : State = taken_by h _ _ s in
+    quiet_tells t (same_heard s t (taken_by_routes h _ _ s) here)
 
 host_down_tells : (h : ℕ) (s : State) → All HeardVector s.routes.heard → TurnTells (host_down s h)
 host_down_tells h s here =
@@ -132,30 +132,30 @@ end_down_tells k s here = quiet_tells _ (All-set HeardVector s.routes.heard k No
 
 resent_tells : (e : End) (c : ℕ) (chs : List Channel) → All FrameTells (frames_from e c chs)
 resent_tells e c [] = All-nil FrameTells
-resent_tells e c (ch ∷ chs) = All-append FrameTells (frames_of e c ch.bit ch.packet) (frames_from e (c + 1) chs) (at ch.packet) (resent_tells e (c + 1) chs) where
+resent_tells e c (ch ∷ chs) = All-append FrameTells (frames_of e c ch.bit ch.packet) (frames_from e (c + 1) chs) (at _) (resent_tells e (c + 1) chs) where
   at : (packet : Option PacketFields) → All FrameTells (frames_of e c ch.bit packet)
   at None = All-nil FrameTells
   at (Some p) = All-cons FrameTells _ [] tt (All-nil FrameTells)
 
 resent_from_tells : (k : ℕ) (ports : List Port) → All OutTells (resent_from k ports)
 resent_from_tells k [] = All-nil OutTells
-resent_from_tells k (port ∷ ports) = All-append OutTells (resent_by k port) (resent_from (k + 1) ports) (at port.up) (resent_from_tells (k + 1) ports) where
+resent_from_tells k (port ∷ ports) = All-append OutTells (resent_by k port) (resent_from (k + 1) ports) (at _) (resent_from_tells (k + 1) ports) where
   at : (up : Bool) → All OutTells (cond up (map (on_port k) (resent port.line)) [])
   at true = All-map OutTells (on_port k) (resent port.line) (resent_tells port.line 0 port.line.sending)
   at false = All-nil OutTells
 
 resend_tells : (s : State) → All HeardVector s.routes.heard → TurnTells (resend s)
-resend_tells s here = pump_tells (resent_from 0 s.ports) s (resent_from_tells 0 s.ports) here
+resend_tells s here = pump_tells _ s (resent_from_tells 0 s.ports) here
 
 told_from_tells : (distances : List ℕ) (k : ℕ) (ports : List Port) → IsVector distances → All OutTells (told_from distances k ports)
 told_from_tells distances k [] is = All-nil OutTells
-told_from_tells distances k (port ∷ ports) is = All-append OutTells (told_by distances k port) (told_from distances (k + 1) ports) (at port.up) (told_from_tells distances (k + 1) ports is) where
+told_from_tells distances k (port ∷ ports) is = All-append OutTells (told_by distances k port) (told_from distances (k + 1) ports) (at _) (told_from_tells distances (k + 1) ports is) where
   at : (up : Bool) → All OutTells (cond up (on_port k (routes_frame port.line distances) ∷ []) [])
   at true = All-cons OutTells _ [] is (All-nil OutTells)
   at false = All-nil OutTells
 
 route_tells : (s : State) → All HeardVector s.routes.heard → TurnTells (route s)
-route_tells s here = pump_tells (told_from (vector_of s.routes) 0 s.ports) s (told_from_tells (vector_of s.routes) 0 s.ports (vector-is s.routes)) here
+route_tells s here = pump_tells _ s (told_from_tells _ 0 s.ports (vector-is s.routes)) here
 
 -- ---- a frame comes in
 
@@ -177,17 +177,17 @@ acknowledged_tells k s = All-cons OutTells (record { port = k; frame = acknowled
 
 frame_tells : (got : Result Received ChannelFault) (k : ℕ) (f : Frame) (s : State) → ((distances : List ℕ) → got ≡ Ok (received.Routes distances) → IsVector distances)
     → All HeardVector s.routes.heard → TurnTells (taken_frame got k f s)
-frame_tells (Ok (received.Fresh p)) k f s told here = at (arrival_has_room (arrival s p) s p) where
+frame_tells (Ok (received.Fresh p)) k f s told here = at _ where
   at : (room : Bool) → TurnTells (cond room (pump (acknowledged k (frame_taken k f s)) (arrived (arrival s p) p (frame_taken k f s))) (ignored s))
-  at true = pump_tells (acknowledged k (frame_taken k f s)) (arrived (arrival s p) p (frame_taken k f s)) (acknowledged_tells k (frame_taken k f s)) (same_heard (frame_taken k f s) (arrived (arrival s p) p (frame_taken k f s)) (arrived_routes (arrival s p) p (frame_taken k f s)) here)
+  at true = pump_tells (acknowledged k (frame_taken k f s)) (arrived (arrival s p) p (frame_taken k f s)) (acknowledged_tells k (frame_taken k f s)) (same_heard (frame_taken k f s) (arrived (arrival s p) p (frame_taken k f s)) (arrived_routes (arrival s p) p _) here)
   at false = record { heard = here; frames = All-nil OutTells }
-frame_tells (Ok received.Repeat) k f s told here = pump_tells (acknowledged k (frame_taken k f s)) (frame_taken k f s) (acknowledged_tells k (frame_taken k f s)) here
+frame_tells (Ok received.Repeat) k f s told here = pump_tells (acknowledged k (frame_taken k f s)) _ (acknowledged_tells k (frame_taken k f s)) here
 frame_tells (Ok received.AckOnly) k f s told here = quiet_tells _ here
 frame_tells (Ok (received.Routes distances)) k f s told here = quiet_tells _ (All-set HeardVector s.routes.heard k (Some distances) (told distances refl) here)
 frame_tells (Err fault) k f s told here = record { heard = here; frames = All-nil OutTells }
 
 from_line_tells : (k : ℕ) (f : Frame) (s : State) → FrameTells f → All HeardVector s.routes.heard → TurnTells (from_line s k f)
-from_line_tells k f s tells here = at (port_at s.ports k).up where
+from_line_tells k f s tells here = at _ where
   at : (up : Bool) → TurnTells (cond up (taken_frame (answer_to (port_at s.ports k).line f) k f s) (ignored s))
   at true = frame_tells (answer_to (port_at s.ports k).line f) k f s (λ distances is. brought_vector (port_at s.ports k).line f distances is tells) here
   at false = record { heard = here; frames = All-nil OutTells }
@@ -218,16 +218,16 @@ still_few imps i o few = subst (λ (k : ℕ). k ≤ most_imps + 1) (sym (length-
 
 turn_routed : (i : ℕ) (turn : ImpTurn) (n : Net) → TurnTells turn → IsRouted n → IsRouted (with_turn i turn n)
 turn_routed i turn n t is = record {
-  few = still_few n.imps i (Some turn.state) is.few;
+  few = still_few n.imps i _ is.few;
   imps = All-set ImpHeard n.imps i (Some turn.state) t.heard is.imps;
-  lines = wires_told (put_all n.lines i turn.frames) (put_all_holds FrameTells n.lines i turn.frames (told_wires n.lines is.lines) t.frames);
+  lines = wires_told _ (put_all_holds FrameTells _ i _ (told_wires _ is.lines) t.frames);
 }
 
 call_routed : (n : Net) (i : ℕ) (call : State → ImpTurn) → ((s : State) → All HeardVector s.routes.heard → TurnTells (call s)) → IsRouted n → IsRouted (at_imp (imp_at n.imps i) i call n)
 call_routed n i call tells is = by (imp_at n.imps i) (imp_heard n.imps i is.imps) where
   by : (o : Option State) → ImpHeard o → IsRouted (at_imp o i call n)
   by None here = is
-  by (Some s) here = turn_routed i (call s) n (tells s here) is
+  by (Some s) here = turn_routed i _ n (tells s here) is
 
 logged_routed : (entries : List Crossing) (n : Net) → IsRouted n → IsRouted (logging entries n)
 logged_routed entries n is = record { few = is.few; imps = is.imps; lines = is.lines }
@@ -235,10 +235,10 @@ logged_routed entries n is = record { few = is.few; imps = is.imps; lines = is.l
 -- ---- the events
 
 pub offer_routed : (n : Net) (m : HostMessage) → IsRouted n → IsRouted (offer_out n m)
-offer_routed n m is = logged_routed (crossing.Out m ∷ []) (at_imp (imp_at n.imps m.flow.source.imp) m.flow.source.imp (λ s. from_host s m) n) (call_routed n m.flow.source.imp (λ s. from_host s m) (from_host_tells m) is)
+offer_routed n m is = logged_routed (crossing.Out m ∷ []) _ (call_routed n _ _ (from_host_tells m) is)
 
 pub take_routed : (n : Net) (h : Host) → IsRouted n → IsRouted (take_in n h)
-take_routed n h is = logged_routed (crossings_of (events.taken_by_host n h)) (at_imp (imp_at n.imps h.imp) h.imp (λ s. to_host s h.host) n) (call_routed n h.imp (λ s. to_host s h.host) (to_host_tells h.host) is)
+take_routed n h is = logged_routed _ _ (call_routed n h.imp _ (to_host_tells h.host) is)
 
 abbrev GotTells : Option Frame → Type 0
 GotTells None = Unit {0}
@@ -250,18 +250,18 @@ got_tells (f ∷ frames) zero all = All-head FrameTells f frames all
 got_tells (f ∷ frames) (suc k) all = got_tells frames k (All-tail FrameTells f frames all)
 
 deliver_routed : (n : Net) (l : ℕ) (d : Direction) (k : ℕ) → IsRouted n → IsRouted (deliver n l d k)
-deliver_routed n l d k is = by (slice_get (frames_on d (wire_at n.lines l)) k) (got_tells (frames_on d (wire_at n.lines l)) k (way_holds FrameTells d (wire_at n.lines l) (wire_holds FrameTells n.lines l (told_wires n.lines is.lines)))) where
+deliver_routed n l d k is = by (slice_get (frames_on d (wire_at n.lines l)) k) (got_tells _ k (way_holds FrameTells d _ (wire_holds FrameTells _ l (told_wires _ is.lines)))) where
   by : (o : Option Frame) → GotTells o → IsRouted (delivered n l d o)
   by None here = is
   by (Some f) here =
-      let i : ℕ = far_end d (wire_at n.lines l) in
-      call_routed n i (λ s. from_line s (port_of n.lines i l) f) (λ s told. from_line_tells (port_of n.lines i l) f s here told) is
+      let i : ℕ = far_end d _ in
+      call_routed n i _ (λ s told. from_line_tells (port_of n.lines i l) f s here told) is
 
 drop_routed : (n : Net) (l : ℕ) (d : Direction) (k : ℕ) → IsRouted n → IsRouted (drop_frame n l d k)
 drop_routed n l d k is = record {
   few = is.few;
   imps = is.imps;
-  lines = wires_told (slice_set n.lines l (dropping d k (wire_at n.lines l))) (dropped_holds FrameTells n.lines l d k (told_wires n.lines is.lines));
+  lines = wires_told _ (dropped_holds FrameTells _ l d k (told_wires _ is.lines));
 }
 
 resend_routed : (n : Net) (i : ℕ) → IsRouted n → IsRouted (at_imp (imp_at n.imps i) i resend n)
@@ -274,7 +274,7 @@ start_routed : (n : Net) (i : ℕ) → IsRouted n → IsRouted (imp_started n i)
 start_routed n i is =
     let ports : ℕ = count_by (ends_at i) n.lines in
     let s : State = started_imp i (hosts_at (site_at n i)) ports in
-    record { few = still_few n.imps i (Some s) is.few; imps = All-set ImpHeard n.imps i (Some s) (All-replicate HeardVector ports None tt) is.imps; lines = is.lines }
+    record { few = still_few n.imps i _ is.few; imps = All-set ImpHeard n.imps i (Some s) (All-replicate HeardVector ports None tt) is.imps; lines = is.lines }
 
 stop_routed : (n : Net) (i : ℕ) → IsRouted n → IsRouted (imp_stopped n i)
 stop_routed n i is = record { few = still_few n.imps i None is.few; imps = All-set ImpHeard n.imps i None tt is.imps; lines = is.lines }
@@ -285,16 +285,17 @@ step_routed n (event.Drop l d k) is = drop_routed n l d k is
 step_routed n (event.Garble l d k) is = drop_routed n l d k is
 step_routed n (event.Resend i) is = resend_routed n i is
 step_routed n (event.Route i) is = route_routed n i is
-step_routed n (event.EndDown i l) is = call_routed n i (λ s. end_down s (port_of n.lines i l)) (end_down_tells (port_of n.lines i l)) is
-step_routed n (event.EndUp i l) is = call_routed n i (λ s. end_up s (port_of n.lines i l)) (λ s here. quiet_tells _ here) is
+step_routed n (event.Claim i) is = call_routed n i claim (λ s here. quiet_tells _ here) is
+step_routed n (event.EndDown i l) is = call_routed n i _ (end_down_tells (port_of n.lines i l)) is
+step_routed n (event.EndUp i l) is = call_routed n i _ (λ s here. quiet_tells _ here) is
 step_routed n (event.ImpDown i) is = stop_routed n i is
 step_routed n (event.ImpUp i) is = start_routed n i is
-step_routed n (event.HostDown h) is = logged_routed (crossing.Down h ∷ []) (at_imp (imp_at n.imps h.imp) h.imp (λ s. host_down s h.host) n) (call_routed n h.imp (λ s. host_down s h.host) (host_down_tells h.host) is)
-step_routed n (event.HostUp h) is = logged_routed (crossing.Up h ∷ []) (at_imp (imp_at n.imps h.imp) h.imp (λ s. host_up s h.host) n) (call_routed n h.imp (λ s. host_up s h.host) (λ s here. quiet_tells _ here) is)
-step_routed n (event.GiveUp f) is = call_routed n f.source.imp (λ s. give_up s f) (λ s here. quiet_tells _ here) is
-step_routed n (event.Forget at from) is = call_routed n at (λ s. forget s from) (λ s here. quiet_tells _ here) is
-step_routed n (event.Abandon f) is = call_routed n f.destination.imp (λ s. abandon s f) (λ s here. quiet_tells _ here) is
-step_routed n (event.Ask f) is = call_routed n f.source.imp (λ s. ask s f) (ask_tells f) is
+step_routed n (event.HostDown h) is = logged_routed (crossing.Down h ∷ []) _ (call_routed n h.imp _ (host_down_tells h.host) is)
+step_routed n (event.HostUp h) is = logged_routed (crossing.Up h ∷ []) _ (call_routed n h.imp _ (λ s here. quiet_tells _ here) is)
+step_routed n (event.GiveUp f) is = call_routed n _ _ (λ s here. quiet_tells _ here) is
+step_routed n (event.Forget at from) is = call_routed n at _ (λ s here. quiet_tells _ here) is
+step_routed n (event.Abandon f) is = call_routed n _ _ (λ s here. quiet_tells _ here) is
+step_routed n (event.Ask f) is = call_routed n _ _ (ask_tells f) is
 
 -- ---- a quiet round
 
@@ -337,9 +338,9 @@ far_least (o ∷ others) imp all far =
 
 no_route : (s : State) (imp : ℕ) → All HeardVector s.routes.heard → most_imps < imp → (imp ≡ number s → ⊥) → has_route s imp ≡ false
 no_route s imp all far other =
-    let least : least_heard s.routes.heard imp ≡ infinite = far_least s.routes.heard imp all far in
-    let distance : distance_to s.routes imp ≡ infinite = distance-other s.routes imp other ∙ ap (λ (d : ℕ). min (d + 1) infinite) least in
-    ap (λ (o : Option ℕ). is_some o) (next-nowhere s.routes imp distance)
+    let least : least_heard s.routes.heard imp ≡ infinite = far_least _ imp all far in
+    let distance : distance_to s.routes imp ≡ infinite = distance-other _ imp other ∙ ap (λ (d : ℕ). min (d + 1) infinite) least in
+    ap (λ (o : Option ℕ). is_some o) (next-nowhere _ imp distance)
 
 imp_below : (imps : List (Option State)) (i : ℕ) (s : State) → imp_at imps i ≡ Some s → i < length imps
 imp_below [] i s at = absurd (cc)
@@ -354,24 +355,24 @@ where_to : (s : State) (m : HostMessage) → All HeardVector s.routes.heard → 
 where_to s m all low go is goes = elim (cases_Bool (m.flow.destination.imp == number s)) [
   | inl own ↦ (let same : m.flow.destination.imp ≡ number s = eqb-true m.flow.destination.imp (number s) own in omega (arith, same, low))
   | inr other ↦ elim (cases_lt most_imps m.flow.destination.imp) [
-    | inl far ↦ (let none : has_route s m.flow.destination.imp ≡ false = no_route s m.flow.destination.imp all far (λ e. (let both : true ≡ false = sym (eq-eqb m.flow.destination.imp (number s) e) ∙ other in cc)) in
+    | inl far ↦ (let none : has_route s m.flow.destination.imp ≡ false = no_route s _ all far (λ e. (let both : true ≡ false = sym (eq-eqb m.flow.destination.imp (number s) e) ∙ other in cc)) in
         let no : Nowhere ≡ go = rw (other, none) at is in absurd (goes (sym no)))
     | inr near ↦ omega (arith, near)
   ]
 ]
 
 pub can_go : (n : Net) (m : HostMessage) → IsRouted n → IsSound n → IsHostMessage m → CanGoFrom (imp_at n.imps m.flow.source.imp) m
-can_go n m routed sound is = by (imp_at n.imps m.flow.source.imp) refl (imp_heard n.imps m.flow.source.imp routed.imps) where
+can_go n m routed sound is = by (imp_at n.imps m.flow.source.imp) refl (imp_heard n.imps _ routed.imps) where
   carriable : (s : State) → imp_at n.imps m.flow.source.imp ≡ Some s → m.flow.destination.imp ≤ most_imps → IsCarriable m
   carriable s at to =
-      let below : m.flow.source.imp < length n.imps = imp_below n.imps m.flow.source.imp s at in
+      let below : m.flow.source.imp < length n.imps = imp_below n.imps _ s at in
       let few : length n.imps ≤ most_imps + 1 = routed.few in
-      record { source = named m.flow.source is.source (omega (arith, below, few)); destination = named m.flow.destination is.destination to; link = is.link; text = is.text }
+      record { source = named _ is.source (omega (arith, below, few)); destination = named _ is.destination to; link = is.link; text = is.text }
 
   to : (s : State) → imp_at n.imps m.flow.source.imp ≡ Some s → All HeardVector s.routes.heard → (go : Way) → way_of s m.flow ≡ go → (go ≡ Nowhere → ⊥) → m.flow.destination.imp ≤ most_imps
   to s at heard go way goes =
       let own : number s ≡ m.flow.source.imp = (subst (IsAt m.flow.source.imp) at (sound.imps m.flow.source.imp)).own in
-      let below : m.flow.source.imp < length n.imps = imp_below n.imps m.flow.source.imp s at in
+      let below : m.flow.source.imp < length n.imps = imp_below n.imps _ s at in
       let few : length n.imps ≤ most_imps + 1 = routed.few in
       where_to s m heard (omega (arith, own, below, few)) go way goes
 
@@ -382,4 +383,4 @@ can_go n m routed sound is = by (imp_at n.imps m.flow.source.imp) refl (imp_hear
 
   by : (o : Option State) → imp_at n.imps m.flow.source.imp ≡ o → ImpHeard o → CanGoFrom o m
   by None at heard = tt
-  by (Some s) at heard = goes_by s at heard (way_of s m.flow) refl
+  by (Some s) at heard = goes_by s at heard _ refl

@@ -13,9 +13,9 @@ use Rattle.imp_node.specs.State.{State, HostState, ImpTurn, number}
 use Rattle.imp_node.specs.Arrival.{from_line, from_line_refusal, ignored}
 use Rattle.imp_node.specs.Asking.{ask, ask_refusal}
 use Rattle.imp_node.specs.Offering.{from_host, from_host_refusal, from_host_grows}
-use Rattle.imp_node.specs.Lines.{resend, route, end_down, end_down_refusal, end_up, end_up_refusal}
+use Rattle.imp_node.specs.Lines.{resend, route, claim, end_down, end_down_refusal, end_up, end_up_refusal}
 use Rattle.imp_node.specs.Stopping.{give_up, give_up_refusal, forget, forget_refusal, abandon, abandon_refusal, host_down, host_down_refusal, host_up, host_up_refusal}
-use Rattle.imp_node.specs.Turns.{from_line_grows, resend_grows, route_grows, end_down_grows, end_up_grows, give_up_grows, forget_grows, abandon_grows, ask_grows, host_down_grows, host_up_grows}
+use Rattle.imp_node.specs.Turns.{from_line_grows, resend_grows, route_grows, claim_grows, end_down_grows, end_up_grows, give_up_grows, forget_grows, abandon_grows, ask_grows, host_down_grows, host_up_grows}
 use Rattle.subnet.specs.declared.imp_call.ImpCall.{ImpCall}
 use Rattle.subnet.specs.declared.imp_call.ImpCall.TheVariants as call
 use Rattle.subnet.specs.Net.{Net, Wire, imp_at}
@@ -29,6 +29,7 @@ call_refusal (call.Offer m) s = from_host_refusal s m
 call_refusal (call.Arrive k f) s = from_line_refusal s k
 call_refusal call.Resend s = None
 call_refusal call.Route s = None
+call_refusal call.Claim s = None
 call_refusal (call.EndDown k) s = end_down_refusal s k
 call_refusal (call.EndUp k) s = end_up_refusal s k
 call_refusal (call.GiveUp f) s = give_up_refusal s f
@@ -43,6 +44,7 @@ call_turn (call.Offer m) s = from_host s m
 call_turn (call.Arrive k f) s = from_line s k f
 call_turn call.Resend s = resend s
 call_turn call.Route s = route s
+call_turn call.Claim s = claim s
 call_turn (call.EndDown k) s = end_down s k
 call_turn (call.EndUp k) s = end_up s k
 call_turn (call.GiveUp f) s = give_up s f
@@ -57,6 +59,7 @@ call_grows (call.Offer m) s = from_host_grows s m
 call_grows (call.Arrive k f) s = from_line_grows s k f
 call_grows call.Resend s = resend_grows s
 call_grows call.Route s = route_grows s
+call_grows call.Claim s = claim_grows s
 call_grows (call.EndDown k) s = end_down_grows s k
 call_grows (call.EndUp k) s = end_up_grows s k
 call_grows (call.GiveUp f) s = give_up_grows s f

@@ -1,7 +1,7 @@
 -- Hosts whose takings give nothing and change nothing.
-use Rattle.std.specs.Prelude.{◌≡◌, ◌⊎◌, ℕ, Bool, true, false, not, Option, Some, None, slice_get}
+use Rattle.std.specs.Prelude.{◌≡◌, ◌⊎◌, ℕ, Bool, true, false, not, List, Option, Some, None, slice_get}
 use Rattle.interface.specs.Calls.{is_halt, is_memory}
-use Rattle.interface.specs.Host.{Host}
+use Rattle.interface.specs.Host.{Host, is_host}
 use Rattle.interface.specs.declared.carrier.CarrierFault.{CarrierFault}
 use Rattle.imp_node.specs.State.{State, is_up}
 use Rattle.subnet.specs.Net.{Net}
@@ -28,6 +28,6 @@ pub record HasNothing (n : Net) (h : Host) : Type 0 where
 abbrev pub TakesNone : Net → Host → Type 0
 TakesNone n h = IsRefused (take_refusal n h) ⊎ HasNothing n h
 
--- the same of the host at this place
-abbrev pub TakesNoneAt : Net → ℕ → Type 0
-TakesNoneAt n i = (h : Host) → slice_get n.hosts i ≡ Some h → TakesNone n h
+-- the same of the host at this place, unless it is one of these
+abbrev pub TakesNoneAt : Net → List Host → ℕ → Type 0
+TakesNoneAt n hosts i = (h : Host) → slice_get n.hosts i ≡ Some h → is_host hosts h ≡ false → TakesNone n h

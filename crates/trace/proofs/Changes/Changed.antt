@@ -23,7 +23,7 @@ pub kept : (before now : List (List ℕ)) (x : List ℕ) → Contains now x → 
 kept before [] x h = absurd (let past : h.0 < 0 = h.1 in omega (arith, past))
 kept [] (n ∷ later) x h = elim (Contains-append_cases (n ∷ []) later x h) [
   | inl here ↦ inl (Contains-append_left (n ∷ []) (changed [] later) x here)
-  | inr there ↦ later_kept (changed [] later) [] (n ∷ []) [] x (kept [] later x there)
+  | inr there ↦ later_kept _ [] (n ∷ []) [] x (kept [] later x there)
 ]
 kept (w ∷ before) (n ∷ later) x h =
     let same : Bool = pointwise nat_eq w n in
@@ -31,7 +31,7 @@ kept (w ∷ before) (n ∷ later) x h =
     subst (λ (xs : List (List ℕ)). IsKept xs (w ∷ before) x) (sym (first w n before later))
     (elim (Contains-append_cases (n ∷ []) later x h) [
       | inl here ↦ first_kept same w n x before news refl here
-      | inr there ↦ later_kept news before (unless same n) (w ∷ []) x (kept before later x there)
+      | inr there ↦ later_kept news before _ (w ∷ []) x (kept before later x there)
     ])
 
 unless_it : (same : Bool) (now x : List ℕ) → Contains (unless same now) x → Contains (now ∷ []) x
@@ -63,7 +63,7 @@ none [] (n ∷ later) long is = absurd (omega (arith, long))
 none (w ∷ before) [] long is = absurd (omega (arith, long))
 none (w ∷ before) (n ∷ later) long is =
     let less : length before ≡ length later = omega (arith, long) in
-    none_more w n before later (pointwise nat_eq w n) refl (none before later less) (sym (first w n before later) ∙ is)
+    none_more w n before later _ refl (none before later less) (sym (first w n before later) ∙ is)
 
 pub none_changed : (now : List (List ℕ)) → changed now now ≡ []
 none_changed [] = refl

@@ -36,8 +36,8 @@ pub changed_step : (before now : List (List ℕ)) (i : ℕ) (x : List ℕ) → i
     (drop (i + 1) now)
 changed_step before now i x lt is =
     let sums : suc i ≡ i + 1 = omega arith in
-    ap (changed (drop i before)) (drop_more now i [] lt ∙ ap (λ (y : List ℕ). y ∷ drop (i + 1) now) is)
-    ∙ step before i x (drop (i + 1) now)
+    ap (changed _) (drop_more now i [] lt ∙ ap (λ (y : List ℕ). y ∷ drop (i + 1) now) is)
+    ∙ step before i x _
     ∙ ap (λ (n : ℕ). unless (is_at before i x) x ++ changed (drop n before) (drop (i + 1) now)) sums
 
 some_left : (xs ys : List (List ℕ)) (x : List ℕ) → xs ≡ x ∷ ys → true ≡ nat_lt 0 (length xs)
@@ -51,7 +51,7 @@ some_changed before now i x lt is other all =
     let some : changed before now ≡ x ∷ changed (drop (i + 1) before) (drop (i + 1) now) =
     all ∙ changed_step before now i x lt is
     ∙ ap (λ (same : Bool). unless same x ++ changed (drop (i + 1) before) (drop (i + 1) now)) other in
-    some_left (changed before now) (changed (drop (i + 1) before) (drop (i + 1) now)) x some
+    some_left _ _ x some
 
 pub next_same : (before now : List (List ℕ)) (i : ℕ) (x : List ℕ) → i < length now → slice_index_or now i [] ≡ x
     → is_at before i x ≡ true → changed before now ≡ changed (drop i before) (drop i now)

@@ -25,7 +25,7 @@ list_or_not {X} items (x ∷ xs) (y ∷ ys) = by (items x y) (list_or_not items 
   by (inr n) others = inr (λ same. n (first_same same))
 
 pub parts_or_not : (p q : AllParts) → IsOrNot p q
-parts_or_not p q = by (same_or_not p.fixed q.fixed) (list_or_not (list_or_not flow_or_not) p.flows q.flows) where
+parts_or_not p q = by (same_or_not _ _) (list_or_not (list_or_not flow_or_not) _ _) where
   by : IsOrNot p.fixed q.fixed → IsOrNot p.flows q.flows → IsOrNot p q
   by (inl e) (inl f) = inl (λ i. record { fixed = e i; flows = f i })
   by (inl e) (inr n) = inr (λ same. n (ap (λ (x : AllParts). x.flows) same))

@@ -35,7 +35,7 @@ part_is p q e =
     let names = and_true (same_side p.side q.side) (same_flow p.flow q.flow) inner.0 in
     let sides : p.side ≡ q.side = side_is p.side q.side names.0 in
     let flows : p.flow ≡ q.flow = same_flow-true p.flow q.flow names.1 in
-    let states : p.state ≡ q.state = state_is p.state q.state inner.1 in
+    let states : p.state ≡ q.state = state_is _ _ inner.1 in
     let numbers : p.number ≡ q.number = grind (arith, nat_tests, outer.1) in
     λ i. record { side = sides i; flow = flows i; state = states i; number = numbers i }
 
@@ -54,21 +54,21 @@ told_before (q ∷ before) p e = by (same_flow_part q p) refl (λ h. told_before
   by : (b : Bool) → same_flow_part q p ≡ b → (is_told before p ≡ true → Contains (map told before) (told p))
       → (b || is_told before p) ≡ true → Contains (map told (q ∷ before)) (told p)
   by true same before_it h = subst (λ (t : List ℕ). Contains (map told (q ∷ before)) t) (ap told (part_is q p same))
-      (contains_head (told q) (map told before))
-  by false other before_it h = contains_tail (told q) (map told before) (told p) (before_it h)
+      (contains_head _ _)
+  by false other before_it h = contains_tail _ _ _ (before_it h)
 
 -- what passes a test is among what does
 passes : (text : FlowPart → List ℕ) (test : FlowPart → Bool) (x : FlowPart) (xs : List FlowPart) → test x ≡ true
     → Contains (map text (filter test (x ∷ xs))) (text x)
 passes text test x xs e = subst (λ (ps : List FlowPart). Contains (map text ps) (text x)) (sym (keeps test x xs true e))
-    (contains_head (text x) (map text (filter test xs)))
+    (contains_head _ _)
 
 passes_later : (text : FlowPart → List ℕ) (test : FlowPart → Bool) (x : FlowPart) (xs : List FlowPart) (t : List ℕ)
     → Contains (map text (filter test xs)) t → Contains (map text (filter test (x ∷ xs))) t
 passes_later text test x xs t h = by (test x) refl where
   by : (b : Bool) → test x ≡ b → Contains (map text (filter test (x ∷ xs))) t
   by true e = subst (λ (ps : List FlowPart). Contains (map text ps) t) (sym (keeps test x xs true e))
-      (contains_tail (text x) (map text (filter test xs)) t h)
+      (contains_tail _ _ t h)
   by false e = subst (λ (ps : List FlowPart). Contains (map text ps) t) (sym (keeps test x xs false e)) h
 
 -- and each of them is among all
@@ -83,12 +83,12 @@ passed text test (x ∷ xs) t h = by (test x) refl (λ g. passed text test xs t 
       subst (λ (ps : List FlowPart). Contains (map text ps) t) (keeps test x xs true e) h in
       elim (Contains-append_cases (text x ∷ []) (map text (filter test xs)) t there) [
         | inl first ↦ Contains-append_left (text x ∷ []) (map text xs) t first
-        | inr rest ↦ contains_tail (text x) (map text xs) t (among rest)
+        | inr rest ↦ contains_tail _ _ t (among rest)
       ]
   by false e among =
       let there : Contains (map text (filter test xs)) t =
       subst (λ (ps : List FlowPart). Contains (map text ps) t) (keeps test x xs false e) h in
-      contains_tail (text x) (map text xs) t (among there)
+      contains_tail _ _ t (among there)
 
 abbrev Either : List (List ℕ) → List (List ℕ) → List ℕ → Type 0
 Either xs ys t = Contains xs t ⊎ Contains ys t
@@ -111,9 +111,9 @@ flow_kept before (x ∷ now) t h = elim (Contains-append_cases (told x ∷ []) (
   by : (b : Bool) → is_told before x ≡ b → Contains (told x ∷ []) t
       → Either (map told (altered before (x ∷ now))) (map told before) t
   by true e first = inr
-      (subst (λ (u : List ℕ). Contains (map told before) u) (only_one (told x) t first) (told_before before x e))
+      (subst (λ (u : List ℕ). Contains (map told before) u) (only_one _ t first) (told_before before x e))
   by false e first = inl
-      (subst (λ (u : List ℕ). Contains (map told (altered before (x ∷ now))) u) (only_one (told x) t first)
+      (subst (λ (u : List ℕ). Contains (map told (altered before (x ∷ now))) u) (only_one _ t first)
       (passes told new x now (ap not e)))
 
 -- ---- list by list
@@ -141,12 +141,12 @@ lists_kept before [] t h = absurd (contains_none t h)
 lists_kept [] (n ∷ now) t h = elim (Contains-append_cases (map told n) (all_told now) t h) [
   | inl first ↦ joined (changed_flows [] n) (changed_lists [] now) [] [] t
       (among_changed [] n t (flow_kept [] n t first))
-  | inr rest ↦ joined_later (changed_flows [] n) (changed_lists [] now) [] [] t (lists_kept [] now t rest)
+  | inr rest ↦ joined_later _ _ [] [] t (lists_kept [] now t rest)
 ]
 lists_kept (b ∷ before) (n ∷ now) t h = elim (Contains-append_cases (map told n) (all_told now) t h) [
   | inl first ↦ joined (changed_flows b n) (changed_lists before now) (map told b) (all_told before) t
       (among_changed b n t (flow_kept b n t first))
-  | inr rest ↦ joined_later (changed_flows b n) (changed_lists before now) (map told b) (all_told before) t
+  | inr rest ↦ joined_later _ _ _ _ t
       (lists_kept before now t rest)
 ]
 
@@ -175,7 +175,7 @@ flow_lost (x ∷ before) now t h = by (is_there now x) refl (flow_lost before no
       let some : Contains (gone x ∷ map gone (lost before now)) t =
       subst (λ (ps : List FlowPart). Contains (map gone ps) t) (keeps out x before true (ap not e)) h in
       elim (Contains-append_cases (gone x ∷ []) (map gone (lost before now)) t some) [
-        | inl first ↦ record { flow = x; was = contains_head x before; none = e; null = sym (only_one (gone x) t first) }
+        | inl first ↦ record { flow = x; was = contains_head x before; none = e; null = sym (only_one _ t first) }
         | inr more ↦ earlier (rest more)
       ]
 
@@ -229,7 +229,7 @@ flow_gone [] now p h none = absurd (contains_none p h)
 flow_gone (x ∷ before) now p h none = elim (Contains-append_cases (x ∷ []) before p h) [
   | inl first ↦ subst (λ (q : FlowPart). Contains (map gone (lost (x ∷ before) now)) (gone q)) (only_one x p first)
       (passes gone out x before (ap (λ (q : FlowPart). not (is_there now q)) (only_one x p first) ∙ ap not none))
-  | inr rest ↦ passes_later gone out x before (gone p) (flow_gone before now p rest none)
+  | inr rest ↦ passes_later gone out x before _ (flow_gone before now p rest none)
 ] where
   out : FlowPart → Bool
   out q = not (is_there now q)
@@ -262,7 +262,7 @@ pub only : (before now : AllParts) (t : List ℕ) → Contains (changed_parts be
 only before now t h = elim
     (Contains-append_cases (changed before.fixed now.fixed) (changed_lists before.flows now.flows) t h) [
       | inl first ↦ inl (Contains-append_left now.fixed (all_told now.flows) t (fixed.only before.fixed now.fixed t first))
-      | inr rest ↦ elim (lists_only before.flows now.flows t rest) [
+      | inr rest ↦ elim (lists_only _ _ t rest) [
         | inl there ↦ inl (Contains-append_right now.fixed (all_told now.flows) t there)
         | inr left ↦ inr left
       ]
@@ -272,4 +272,4 @@ pub all_lost : (before now : AllParts) (i : ℕ) (p : FlowPart) → i < length n
     → Contains (slice_index_or before.flows i []) p → is_there (slice_index_or now.flows i []) p ≡ false
     → Contains (changed_parts before now) (gone p)
 all_lost before now i p lt h none = Contains-append_right (changed before.fixed now.fixed)
-    (changed_lists before.flows now.flows) (gone p) (lists_gone before.flows now.flows i p lt h none)
+    (changed_lists before.flows now.flows) (gone p) (lists_gone _ _ i p lt h none)

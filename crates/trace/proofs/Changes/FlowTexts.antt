@@ -71,20 +71,20 @@ host_plain h =
 flow_plain : (f : Flow) → Lacks 34 (flow_text f)
 flow_plain f =
     let P : ℕ → Type 0 = λ x. (x == 34) ≡ false in
-    All-append P (host_text f.source) (32 ∷ (host_text f.destination ++ 32 ∷ decimal f.link.0)) (host_plain f.source)
+    All-append P (host_text f.source) (32 ∷ (host_text f.destination ++ 32 ∷ decimal f.link.0)) (host_plain _)
     (All-cons P 32 (host_text f.destination ++ 32 ∷ decimal f.link.0) refl
-    (All-append P (host_text f.destination) (32 ∷ decimal f.link.0) (host_plain f.destination)
-    (All-cons P 32 (decimal f.link.0) refl (decimal_lacks 34 f.link.0 (lit< tt)))))
+    (All-append P (host_text f.destination) (32 ∷ decimal f.link.0) (host_plain _)
+    (All-cons P 32 (decimal f.link.0) refl (decimal_lacks 34 _ (lit< tt)))))
 
 flow_text_once : (f g : Flow) → IsFlowNamed f → IsFlowNamed g → flow_text f ≡ flow_text g → f ≡ g
 flow_text_once f g p q e =
     let first = same_cut 32 (host_text f.source) (host_text f.destination ++ 32 ∷ decimal f.link.0) (host_text g.source)
-    (host_text g.destination ++ 32 ∷ decimal g.link.0) (host_whole f.source) (host_whole g.source) e in
+    (host_text g.destination ++ 32 ∷ decimal g.link.0) (host_whole _) (host_whole _) e in
     let second = same_cut 32 (host_text f.destination) (decimal f.link.0) (host_text g.destination) (decimal g.link.0)
-    (host_whole f.destination) (host_whole g.destination) first.back in
+    (host_whole _) (host_whole _) first.back in
     let source : f.source ≡ g.source = host_words.once f.source g.source p.source q.source first.front in
     let destination : f.destination ≡ g.destination = host_words.once f.destination g.destination p.destination q.destination second.front in
-    let link : f.link.0 ≡ g.link.0 = short_once f.link.0 g.link.0 p.link q.link second.back in
+    let link : f.link.0 ≡ g.link.0 = short_once _ _ p.link q.link second.back in
     λ i. record { source = source i; destination = destination i; link = record { 0 = link i } }
 
 name_closed : (p : FlowPart) → Lacks 34 (flow_name p)
@@ -99,7 +99,7 @@ abbrev known_members : Side → FlowState → ℕ → List (List ℕ)
 known_members s x n = member (state_name s) (quoted (state_word x)) ∷ member (codes "number") (decimal n) ∷ []
 
 known_closed : (s : Side) (x : FlowState) (n : ℕ) → AreClosed (known_members s x n)
-known_closed s x n = also_closed (state_name s) (name_plain s) (string_closed (state_word x) (state_plain x))
+known_closed s x n = also_closed (state_name s) (name_plain s) (string_closed _ (state_plain x))
     (also_closed (codes "number") refl (decimal_closed n) none_closed)
 
 record SameKnown (x y : FlowState) (m n : ℕ) : Type 0 where
@@ -136,5 +136,5 @@ part_once p q np nq e =
     let flows : p.flow ≡ q.flow = flow_text_once p.flow q.flow np.flow nq.flow names.back in
     let behind : object (known_members p.side p.state p.number) ≡ object (known_members p.side q.state q.number) =
     rest_same cut.back ∙ ap (λ (s : Side). object (known_members s q.state q.number)) (sym sides) in
-    let known = known_once p.side p.state q.state p.number q.number np.number nq.number behind in
+    let known = known_once p.side _ _ _ _ np.number nq.number behind in
     λ i. record { side = sides i; flow = flows i; state = known.state i; number = known.number i }

@@ -85,7 +85,7 @@ name_same p = ap₂ (λ (a b : Bool). a && b) (side_same p.side) (same_flow-refl
 pub part_same : (p : FlowPart) → same_flow_part p p ≡ true
 part_same p =
     let number : (p.number == p.number) ≡ true = eq-eqb p.number p.number refl in
-    ap₂ (λ (a b : Bool). a && b) (ap₂ (λ (a b : Bool). a && b) (name_same p) (state_same p.state)) number
+    ap₂ (λ (a b : Bool). a && b) (ap₂ (λ (a b : Bool). a && b) (name_same p) (state_same _)) number
 
 found : (test : FlowPart → Bool) (front back : List FlowPart) (x : FlowPart) → test x ≡ true
     → list_any test (front ++ x ∷ back) ≡ true
@@ -100,9 +100,9 @@ all_found : (same : FlowPart → FlowPart → Bool) → ((p : FlowPart) → same
     → filter (λ p. not (list_any (λ q. same q p) (front ++ xs))) xs ≡ []
 all_found same itself front [] = refl
 all_found same itself front (x ∷ xs) =
-    let there : list_any (λ q. same q x) (front ++ x ∷ xs) ≡ true = found (λ q. same q x) front xs x (itself x) in
+    let there : list_any (λ q. same q x) (front ++ x ∷ xs) ≡ true = found _ front xs x (itself x) in
     let whole : (front ++ x ∷ []) ++ xs ≡ front ++ x ∷ xs = append_assoc front (x ∷ []) xs in
-    keeps (λ p. not (list_any (λ q. same q p) (front ++ x ∷ xs))) x xs false (ap not there)
+    keeps _ x xs false (ap not there)
     ∙ ap (λ (all : List FlowPart). filter (λ p. not (list_any (λ q. same q p) all)) xs) (sym whole)
     ∙ all_found same itself (front ++ x ∷ []) xs
 

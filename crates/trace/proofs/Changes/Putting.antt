@@ -68,7 +68,7 @@ put_more may before now place known later text longer olds news x y kept put add
   by : (b : Bool) → may ≡ b → put_at b known place y ≡ (h.front ++ y ∷ []) ++ olds
   by true e =
       ap (λ (ks : List (List ℕ)). slice_set ks place y) h.there
-      ∙ ap (λ (n : ℕ). slice_set (h.front ++ x ∷ olds) n y) h.count ∙ set_front h.front olds x y
+      ∙ ap (λ (n : ℕ). slice_set (h.front ++ x ∷ olds) n y) h.count ∙ set_front _ olds x y
       ∙ sym (append_assoc h.front (y ∷ []) olds)
   by false e = h.there ∙ ap (λ (z : List ℕ). h.front ++ z ∷ olds) (sym (kept e))
       ∙ sym (append_assoc h.front (y ∷ []) olds)
@@ -78,7 +78,7 @@ put_more may before now place known later text longer olds news x y kept put add
   also true e =
       let test : is_at known place y ≡ pointwise nat_eq x y = ap (λ (ks : List (List ℕ)). is_at ks place y) h.there
       ∙ ap (λ (n : ℕ). is_at (h.front ++ x ∷ olds) n y) h.count ∙ at_front h.front olds x y in
-      text_more (is_at known place y) text y (changed olds news)
+      text_more _ text y (changed olds news)
       ∙ ap (λ (t : Bool). extended text (unless t y ++ changed olds news)) test
       ∙ ap (λ (ys : List (List ℕ)). extended text ys) (sym (first x y olds news))
   also false e =

@@ -41,10 +41,10 @@ refused_parts old new e shown one h refused = by h.outcome h.gives h.goes_on ref
 -- ---- calls that keep all parts
 
 pub offer_keeps : (old new : Boxes) (m : HostMessage) (e : CarrierFault) → is_memory e ≡ false → plain_calls.offers old m (Err e) new → plain_inside.members new ≡ plain_inside.members old
-offer_keeps old new m e lasts h = ap plain_inside.members (refused_leaves {T = Unit {0}} (offer_refusal old m.flow) true (λ done. new ≡ offered old m) old e new lasts h)
+offer_keeps old new m e lasts h = ap plain_inside.members (refused_leaves {T = Unit {0}} _ true (λ done. new ≡ offered old m) old e new lasts h)
 
 pub take_keeps : (old new : Boxes) (h : Host) (e : CarrierFault) → is_memory e ≡ false → plain_calls.takes old h (Err e) new → plain_inside.members new ≡ plain_inside.members old
-take_keeps old new h e lasts t = ap plain_inside.members (refused_leaves {T = Option Inbound} (host_refusal old h) (take_grows old h) (λ o. (o ≡ next_for old h) × (new ≡ inbound_taken old h o)) old e new lasts t)
+take_keeps old new h e lasts t = ap plain_inside.members (refused_leaves {T = Option Inbound} _ _ (λ o. (o ≡ next_for old h) × (new ≡ inbound_taken old h o)) old e new lasts t)
 
 pub none_keeps : (old new : Boxes) (h : Host) → plain_calls.takes old h (Ok None) new → plain_inside.members new ≡ plain_inside.members old
 none_keeps old new h t = ap plain_inside.members t.1.1
@@ -54,7 +54,7 @@ none_keeps old new h t = ap plain_inside.members t.1.1
 pub only_reached : (texts : AllParts) (e : RawEvent) (crossings : List Crossing) (r : Result (Unit {0}) CarrierFault) (new : Boxes) → HasHappened plain_calls plain_inside.members texts e crossings r new → OnlyReached texts.fixed e crossings new
 only_reached texts e crossings r new h =
     let shown : List Shown = shown_crossings crossings ++ shown_refusal r in
-    let k : Happens plain_calls h.old e new shown = happens plain_calls plain_inside.members texts e crossings r new h in
+    let k : Happens plain_calls h.old e new shown = happens plain_calls _ texts e crossings r new h in
     let crossed : crossings_of shown ≡ crossings = crossings_shown crossings r in
     let left = left_of h.old new e shown h.one_call k in record {
       old = h.old;
@@ -86,7 +86,7 @@ pub host_put : (old new : Boxes) (hosts : List Host) (i place : ℕ) (h : Host) 
     → (reached ≡ false → SamePart (Waiting h) old new) → later ≡ put_at reached known place (waiting_text new h) → longer ≡ put_text reached known place (waiting_text new h) text
     → PutSoFar before now place known text (waiting_left old hosts i) (waiting_left new hosts i) → PutSoFar before now (place + 1) later longer (waiting_left old hosts (i + 1)) (waiting_left new hosts (i + 1))
 host_put old new hosts i place h reached before now known later text longer lt is rest put added so =
-    put_more reached before now place known later text longer (waiting_left old hosts (i + 1)) (waiting_left new hosts (i + 1)) (waiting_text old h) (waiting_text new h)
+    put_more reached before now place known later text longer _ _ _ _
     (λ none. waiting_same old new h (rest none)) put added
     (subst (λ (news : List (List ℕ)). PutSoFar before now place known text (waiting_text old h ∷ waiting_left old hosts (i + 1)) news) (one_left new hosts i h lt is)
     (subst (λ (olds : List (List ℕ)). PutSoFar before now place known text olds (waiting_left new hosts i)) (one_left old hosts i h lt is) so))
@@ -107,5 +107,5 @@ begin_put texts e crossings new r hosts later room longer are empty put added =
     let so : PutSoFar texts (all_members new) 0 texts room (down_text r.old ∷ waiting_left r.old hosts 0) (down_text new ∷ waiting_left new hosts 0) =
     subst (λ (text : List ℕ). PutSoFar texts (all_members new) 0 texts text (down_text r.old ∷ waiting_left r.old hosts 0) (down_text new ∷ waiting_left new hosts 0)) (sym empty)
     (subst (λ (ns : List (List ℕ)). PutSoFar texts (all_members new) 0 texts [] (down_text r.old ∷ waiting_left r.old hosts 0) ns) news
-    (subst (λ (os : List (List ℕ)). PutSoFar texts (all_members new) 0 texts [] os (all_members new)) olds (none_put texts (all_members new)))) in
-    put_more (moves_host e) texts (all_members new) 0 texts later room longer (waiting_left r.old hosts 0) (waiting_left new hosts 0) (down_text r.old) (down_text new) (λ none. down_same r.old new (r.down none)) put added so
+    (subst (λ (os : List (List ℕ)). PutSoFar texts (all_members new) 0 texts [] os (all_members new)) olds (none_put texts _))) in
+    put_more _ texts _ 0 texts later room longer _ _ _ _ (λ none. down_same r.old new (r.down none)) put added so

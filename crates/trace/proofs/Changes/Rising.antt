@@ -8,7 +8,7 @@ use Rattle.std.specs.List.{All, AllByRecursion}
 use Rattle.std.specs.declared.cmp.Ordering.TheVariants.{Less, Equal}
 use Rattle.interface.specs.Flow.{flow_cmp, same_flow}
 use Rattle.interface.proofs.lemmas.{and_true, flows_total, same_flow-true}
-use Rattle.trace.specs.Changes.{AreOfOne, Rises, altered, changed, changed_flows, changed_lists, changed_parts, is_there, is_told, lost}
+use Rattle.trace.specs.Changes.{AreOfOne, Rises, altered, changed, changed_flows, changed_lists, changed_parts, is_there, is_told}
 use Rattle.trace.proofs.Changes.Changed as fixed
 use Rattle.trace.proofs.Changes.FlowLaws.{part_is}
 use Rattle.trace.proofs.Changes.Flowing.{keeps}
@@ -130,17 +130,17 @@ none_failed test (x ∷ xs) e = by (test x) refl (none_failed test xs) where
   by : (b : Bool) → test x ≡ b
       → (filter (λ p. not (test p)) xs ≡ [] → AllByRecursion (λ p. test p ≡ true) xs)
       → AllByRecursion (λ p. test p ≡ true) (x ∷ xs)
-  by true passed rest = (passed, rest (sym (keeps (λ p. not (test p)) x xs false (ap not passed)) ∙ e))
+  by true passed rest = (passed, rest (sym (keeps _ x xs false (ap not passed)) ∙ e))
   by false failed rest = absurd
       (let long : suc (length (filter (λ p. not (test p)) xs)) ≡ 0
-      = ap length (sym (keeps (λ p. not (test p)) x xs true (ap not failed)) ∙ e) in omega (arith, long))
+      = ap length (sym (keeps _ x xs true (ap not failed)) ∙ e) in omega (arith, long))
 
 none_in_list : (before now : List FlowPart) → Rises before → Rises now → changed_flows before now ≡ [] → now ≡ before
 none_in_list before now rose rise none =
-    let both = none_of (map told (altered before now)) (map gone (lost before now)) none in
+    let both = none_of (map told (altered before now)) _ none in
     same_list before now rose rise
-    (none_failed (is_told before) now (none_mapped told (altered before now) both.0))
-    (none_failed (is_there now) before (none_mapped gone (lost before now) both.1))
+    (none_failed _ now (none_mapped told _ both.0))
+    (none_failed _ before (none_mapped gone _ both.1))
 
 none_in_lists : (before now : List (List FlowPart)) → length before ≡ length now → All Rises before → All Rises now
     → changed_lists before now ≡ [] → now ≡ before
@@ -148,7 +148,7 @@ none_in_lists [] [] long rose rise none = refl
 none_in_lists [] (n ∷ now) long rose rise none = absurd (omega (arith, long))
 none_in_lists (b ∷ before) [] long rose rise none = absurd (omega (arith, long))
 none_in_lists (b ∷ before) (n ∷ now) long rose rise none =
-    let both = none_of (changed_flows b n) (changed_lists before now) none in
+    let both = none_of (changed_flows b n) _ none in
     let first : n ≡ b = none_in_list b n (All-head Rises b before rose) (All-head Rises n now rise) both.0 in
     let rest : now ≡ before = none_in_lists before now (omega (arith, long)) (All-tail Rises b before rose)
     (All-tail Rises n now rise) both.1 in
@@ -156,10 +156,10 @@ none_in_lists (b ∷ before) (n ∷ now) long rose rise none =
 
 pub none : (before now : AllParts) → AreOfOne before now → changed_parts before now ≡ [] → now ≡ before
 none before now are is =
-    let both = none_of (changed before.fixed now.fixed) (changed_lists before.flows now.flows) is in
+    let both = none_of (changed before.fixed now.fixed) _ is in
     let fixed_same : now.fixed ≡ before.fixed = fixed.none before.fixed now.fixed are.fixed both.0 in
     let flows_same : now.flows ≡ before.flows =
-    none_in_lists before.flows now.flows are.lists are.rose are.rise both.1 in
+    none_in_lists _ _ are.lists are.rose are.rise both.1 in
     λ i. record { fixed = fixed_same i; flows = flows_same i }
 
 -- ---- plain mailboxes, of which no flows are known

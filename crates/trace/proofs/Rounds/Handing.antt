@@ -45,9 +45,9 @@ module _ {C P W : Type 0} (calls : Calls C) (inside : Inside C) (left : C → P 
       → RoundsPass (RoundTells calls inside spot contents all) (λ at. flushed at.1 ≡ true) (length h.so_far.done + 1) old new
   next_seen all passed old mid new place next h (round, is, written) seen =
       let done : List (List Element) = h.so_far.done in
-      one_round_seen (RoundTells calls inside spot contents all) (λ at. flushed at.1 ≡ true) (length done) old mid new h.rounds
+      one_round_seen _ _ _ old mid new h.rounds
       (done, round, by_round (left new.0 next), h.so_far.parts ∙ ap (λ es. done ++ es) is, refl, written)
-      (λ many. seen (late passed (length done) h.count many))
+      (λ many. seen (late passed _ h.count many))
 
   pub one_passing : (all : List (List Element)) (passed more : ℕ) (old mid new : C × W) (place next : P) (parts : AllParts)
       (booked : ℕ) → Passing calls inside spot contents flushed all (by_round (left mid.0 place)) passed old mid
@@ -63,7 +63,7 @@ module _ {C P W : Type 0} (calls : Calls C) (inside : Inside C) (left : C → P 
         so_far = record {
           done = done ++ round ∷ [];
           parts = h.so_far.parts ∙ ap (λ es. done ++ es) is ∙ sym (append_assoc done (round ∷ []) (by_round (left new.0 next)));
-          written = one_written (TellsMoving calls inside spot) (λ line. line) old.0 mid.0 new.0 done round (contents old.1)
+          written = one_written (TellsMoving calls inside spot) (λ line. line) old.0 mid.0 new.0 done round _
               (contents mid.1) (contents new.1) h.so_far.written
               (record { shown = written.shown; is_shown = (written.is_shown, has_moved calls inside mid.0 new.0 parts booked begun moved); written = written.written });
         };
@@ -113,7 +113,7 @@ pub one_call_seen : {C W : Type 0} (calls : Calls C) (inside : Inside C) (conten
     → EventHandsOn calls inside contents flushed old (spot, e) new
 one_call_seen calls inside contents flushed spot e old new one = λ long. (
     let is : length (by_round (elements_in (inside.calm old.0) e)) ≡ 1 =
-    ap (λ xs. length (by_round xs)) (one_element (inside.calm old.0) e one) in
+    ap (λ xs. length (by_round xs)) (one_element _ e one) in
     absurd (omega (arith, is, long)))
 
 -- ---- a round after which it couldn't be handed on: its last elementary event had already happened
@@ -129,7 +129,7 @@ may_tell : {C : Type 0} (calls : Calls C) (inside : Inside C) (spot : Spot) (old
     → (others : List (List ℕ)) × MayTell calls old x new others
 may_tell calls inside spot old new x own any (shown, goes, is) = (
   [],
-  (record { processed = x.event; begins = begins_all x.event; outcome = goes.outcome; gives = goes.gives; unknown = refl }, refl),
+  (record { processed = x.event; begins = begins_all _; outcome = goes.outcome; gives = goes.gives; unknown = refl }, refl),
 )
 
 any_element : (xs : List Element) → Each (λ x. Unit {0}) xs
@@ -141,7 +141,7 @@ some_in : (xs round : List Element) (later : List (List Element)) → by_round x
     → (x : Element) × (more : List Element) × (round ≡ x ∷ more)
 some_in [] round later is = absurd (cc)
 some_in (x ∷ xs) round later is =
-    let begun : Begins (by_round (x ∷ xs)) [] x = round_begun x.round [] x xs tt refl in
+    let begun : Begins (by_round (x ∷ xs)) [] x = round_begun _ [] x xs tt refl in
     let same : round ∷ later ≡ (x ∷ begun.more) ∷ begun.later = sym is ∙ begun.is in
     (x, begun.more, cc)
 
@@ -149,9 +149,9 @@ pub unhanded : {C P : Type 0} (calls : Calls C) (inside : Inside C) (left : C �
     (old new : C) (place next : P) (a b c : Option (List ℕ)) → RoundEnds calls inside left spot old place (Ok next) new a b
     → RoundEnds calls inside left spot old place (Err fault.CannotWrite) new a c
 unhanded calls inside left spot old new place next a b c (round, is, written) =
-    let (x, more, same) = some_in (left old place) round (by_round (left new next)) is in
-    let (others, ends) = ends_last (TellsElement calls inside spot) (MayTell calls) (λ x. Unit {0})
-    (may_tell calls inside spot) old new x more (any_element (x ∷ more)) written.shown
+    let (x, more, same) = some_in (left old place) round _ is in
+    let (others, ends) = ends_last _ _ _
+    (may_tell calls inside spot) old new x more (any_element (x ∷ more)) _
     (subst (λ (es : List Element). TellsRound calls inside spot old es new written.shown) same written.is_shown) in (
       round,
       by_round (left new next),
@@ -175,15 +175,15 @@ pub event_seen : {C W : Type 0} (calls : Calls C) (inside : Inside C) (contents 
     → WritesTrace (TellsEvent calls inside mid.0 e new.0) (contents mid.1) (contents new.1)
     → EventHandsOn calls inside contents flushed mid e new → SeenSoFar calls inside contents flushed old all later new
 event_seen calls inside contents flushed old mid new all left later e is h goes handed =
-    one_more (IsSeen (TellsEvent calls inside) (λ line. line) contents (EventHandsOn calls inside contents flushed)) old mid new
-    all left later e (contents old.1) (contents mid.1) (contents new.1) is h
-    (seen_written (TellsEvent calls inside) (λ line. line) contents (EventHandsOn calls inside contents flushed) mid e new goes handed)
+    one_more _ old mid new
+    all left later e _ _ _ is h
+    (seen_written _ _ contents _ mid e new goes handed)
 
 pub events_seen : {C W : Type 0} (calls : Calls C) (inside : Inside C) (contents : W → Option (List ℕ)) (flushed : W → Bool)
     (old new : C × W) (events : List (ℕ × RawEvent)) (left : List (Spot × RawEvent)) → left ≡ []
     → SeenSoFar calls inside contents flushed old (numbered_from 1 events) left new
     → EventsAreSeen calls inside contents flushed events old new
 events_seen calls inside contents flushed old new events left none h =
-    let w = all_told (IsSeen (TellsEvent calls inside) (λ line. line) contents (EventHandsOn calls inside contents flushed)) old
-    new (numbered_from 1 events) left (contents old.1) (contents new.1) none h in
+    let w = all_told _ old
+    new _ left _ _ none h in
     (w.shown, w.is_shown)

@@ -60,7 +60,7 @@ goes_on_in round y (z ∷ done) x rest first all is = eq-eqb z.round y.round (al
 -- some of its elementary events, and one more
 pub round_begun : (round : ℕ) (done : List Element) (x : Element) (rest : List Element) → AllIn round done
     → x.round ≡ round → Begins (by_round (done ++ x ∷ rest)) done x
-round_begun round [] x rest all is = first_begins (begins_in x.round rest) x (by_round rest)
+round_begun round [] x rest all is = first_begins _ x _
 round_begun round (y ∷ done) x rest all is =
     let h : Begins (by_round (done ++ x ∷ rest)) done x = round_begun round done x rest all.1 is in
     record {

@@ -12,7 +12,7 @@ both_in round (x ∷ xs) ys h k = (h.0, both_in round xs ys h.1 k)
 
 pub then_in : {S : Type 0} (round : ℕ) (first : Course S) (next : S → Course S) → IsIn round first
     → ((s : S) → IsIn round (next s)) → IsIn round (then_course first next)
-then_in round first next h k = both_in round first.elements (next first.left).elements h (k first.left)
+then_in round first next h k = both_in round _ _ h (k first.left)
 
 takings_in : {S : Type 0} (giving : Giving S) (round : ℕ) (h : Host) (times : ℕ) (s : S)
     → IsIn round (takings giving round h times s)
@@ -30,5 +30,5 @@ pub all_takings_in : {S : Type 0} (giving : Giving S) (round : ℕ) (hosts : Lis
     → IsIn round (all_takings giving round hosts s)
 all_takings_in giving round [] s = tt
 all_takings_in giving round (h ∷ hosts) s =
-    then_in round (takings giving round h 16 s) (all_takings giving round hosts) (takings_in giving round h 16 s)
+    then_in round _ (all_takings giving round hosts) (takings_in giving round h 16 s)
     (λ t. all_takings_in giving round hosts t)

@@ -1,6 +1,6 @@
 -- Where a carrier's calls leave a replay no choice, an event has one trace, and what is traced where memory runs out is
 -- the first part of it.
-use Rattle.trace.proofs.Common.{◌≡◌, ◌⊎◌, inl, inr, ℕ, List, [], ◌∷◌, ◌++◌, refl, sym, ap, ap₂, ◌∙◌, subst, Calls, Shown, AreSettled, Element, Spot, by_round, elements_in, trace_line, EndsEvent, EndsRound, Inside, IsStill, StopsElement, TellsElement, TellsEvent, TellsMoving, TellsRound, TellsRounds, change_text}
+use Rattle.trace.proofs.Common.{◌≡◌, ◌⊎◌, inl, inr, ℕ, List, [], ◌∷◌, ◌++◌, refl, sym, ap, ap₂, ◌∙◌, subst, Calls, Shown, AreSettled, Element, Spot, trace_line, EndsEvent, EndsRound, Inside, IsStill, StopsElement, TellsElement, TellsEvent, TellsMoving, TellsRound, TellsRounds, change_text}
 use Rattle.std.proofs.lemmas.List.{append_assoc, append-nil}
 use Rattle.replay.proofs.lemmas.{OneReplay, ends_front, in_turn_once, replays_once}
 use Rattle.replay.specs.InTurn.{HappensOnce, InTurn, ShowsFront}
@@ -30,7 +30,7 @@ stops_front calls inside spot old x new other part whole (inr h) k = (whole, sym
 module _ {C : Type 0} (calls : Calls C) (inside : Inside C) (settled : AreSettled calls) (spot : Spot) where
   round_once : HappensOnce (TellsRound calls inside spot)
   round_once old round new other lines more h k =
-      in_turn_once (TellsElement calls inside spot)
+      in_turn_once _
       (element_once calls inside settled spot) old round new other lines more h k
 
   rounds_once : (rounds : List (List Element)) (old new other : C) (lines more : List (List ℕ))
@@ -74,7 +74,7 @@ module _ {C : Type 0} (calls : Calls C) (inside : Inside C) (settled : AreSettle
   -- the round in which memory ran out shows the first part of what it would show
   round_front : ShowsFront (EndsRound calls inside (StopsElement calls) spot) (TellsRound calls inside spot)
   round_front old round new other part whole h k =
-      ends_front (TellsElement calls inside spot) (StopsElement calls) (element_once calls inside settled spot)
+      ends_front _ _ (element_once calls inside settled spot)
       (stops_front calls inside spot) old round new other part whole h k
 
   rounds_front : (done : List (List Element)) (last : List Element) (left : List (List Element)) (old mid new other : C)
@@ -97,7 +97,7 @@ module _ {C : Type 0} (calls : Calls C) (inside : Inside C) (settled : AreSettle
   rounds_front (d ∷ done) last left old mid new other front own whole
       (next, first, rest, (told, moved), later, all) goes k =
       by (λ others. rounds_front done last left next mid new other rest own others.0 later goes others.1)
-      (opened_rounds calls inside spot old d (done ++ last ∷ left) other whole k)
+      (opened_rounds calls inside spot old d _ other whole k)
     where
       by : ((others : (shown : List (List ℕ)) × TellsRounds calls inside spot next (done ++ last ∷ left) other shown)
           → (more : List (List ℕ)) × (others.0 ≡ (rest ++ own) ++ more))
@@ -131,12 +131,12 @@ module _ {C : Type 0} (calls : Calls C) (inside : Inside C) (settled : AreSettle
 pub event_once : {C : Type 0} (calls : Calls C) (inside : Inside C) → AreSettled calls
     → HappensOnce (TellsEvent calls inside)
 event_once calls inside settled old e new other lines more h k =
-    rounds_once calls inside settled e.0 (by_round (elements_in (inside.calm old) e.1)) old new other lines more h k
+    rounds_once calls inside settled e.0 _ old new other lines more h k
 
 pub event_front : {C : Type 0} (calls : Calls C) (inside : Inside C) → AreSettled calls
     → ShowsFront (EndsEvent calls inside (StopsElement calls)) (TellsEvent calls inside)
 event_front calls inside settled old e new other part whole h k =
-    let (rest, is) = rounds_front calls inside settled e.0 h.done h.last h.left old h.mid new other h.front h.own whole
+    let (rest, is) = rounds_front calls inside settled e.0 h.done h.last h.left old h.mid new other _ h.own whole
     h.before h.goes
     (subst (λ (rounds : List (List Element)). TellsRounds calls inside e.0 old rounds other whole) h.parts k) in
     (rest, is ∙ ap (λ ls. ls ++ rest) (sym h.lines))

@@ -2,7 +2,7 @@
 use Rattle.trace.proofs.Common.{◌≡◌, ◌&&◌, ◌+◌, ℕ, zero, suc, Bool, true, false, List, [], ◌∷◌, ◌++◌, length, Option, Some, None, Ok, is_some, arith, refl, sym, ap, subst, Host, Crossing, Shown, shown_crossings, Happens, Replays, RawEvent, Element, Spot, Course, all_takings, events_of, from_boxes, is_given, round_of, taking, takings, then_course, IsStill, SaysAll, TellsEvent, plain_inside}
 use Rattle.std.proofs.lemmas.List.{length-append}
 use Rattle.interface.specs.declared.Inbound.{Inbound}
-use Rattle.leader1822.specs.Boxes.{Boxes, inbound_taken, is_running, next_for, plain_calls}
+use Rattle.leader1822.specs.Boxes.{Boxes, inbound_taken, next_for, plain_calls}
 use Rattle.trace.proofs.Calms.{goes_round, taken_log, traced}
 use Rattle.trace.proofs.Courses.{none_given, one_given}
 use Rattle.trace.proofs.Going.{Goes}
@@ -18,7 +18,7 @@ Grows b c = length c.left.log ≡ length c.elements + length b.log
 
 given_log : (b : Boxes) (h : Host) → is_given b h ≡ true
     → length (inbound_taken b h (next_for b h)).log ≡ suc (length b.log)
-given_log b h given = by (next_for b h) (some (is_running b.hosts b.down h) (is_some (next_for b h)) given) where
+given_log b h given = by (next_for b h) (some _ _ given) where
   some : (up there : Bool) → (up && there) ≡ true → there ≡ true
   some true there e = e
   some false there e = absurd (cc)
@@ -63,10 +63,10 @@ stays : (round : ℕ) (old new : Boxes) → Goes traced old (round_of round old)
     → IsStill plain_calls plain_inside old new → new ≡ old
 stays round old new goes still =
     let course : Course Boxes = round_of round old in
-    let grew : length course.left.log ≡ length course.elements + length old.log = all_grow round old.hosts old in
+    let grew : length course.left.log ≡ length course.elements + length old.log = all_grow round _ old in
     let here : length new.log ≡ length course.left.log = ap (λ (b : Boxes). length b.log) goes.left in
     let same : length new.log ≡ length old.log = ap (λ (log : List Crossing). length log) still.log in
-    let none : course.elements ≡ [] = none_of course.elements (omega (arith, grew, here, same)) in
+    let none : course.elements ≡ [] = none_of _ (omega (arith, grew, here, same)) in
     (subst (λ (xs : List Element). Replays plain_calls old (events_of xs) new (shown_crossings goes.run.crossings)) none
     goes.run.replays).0
 

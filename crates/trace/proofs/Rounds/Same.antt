@@ -1,5 +1,5 @@
 -- Members and logs that are as they were.
-use Rattle.trace.proofs.Common.{◌≡◌, ◌⊎◌, inl, inr, ℕ, suc, ◌+◌, ◌<◌, Bool, true, false, nat_eq, nat_lt, not, List, [], ◌∷◌, ◌++◌, length, map, arith, refl, sym, ap, ap₂, ◌∙◌, false≢true, lt-ltb, bytes_decides, pointwise, changed}
+use Rattle.trace.proofs.Common.{◌≡◌, ◌⊎◌, inl, inr, ℕ, suc, ◌+◌, ◌<◌, Bool, true, false, nat_lt, not, List, [], ◌∷◌, ◌++◌, length, map, arith, refl, sym, ap, ap₂, ◌∙◌, false≢true, lt-ltb, bytes_decides, changed}
 use Rattle.std.proofs.lemmas.List.{length-append}
 use Rattle.std.specs.Bool.{OnFalse, OnTrue}
 use Rattle.std.specs.List.{AllZip}
@@ -17,8 +17,8 @@ both_same [] (m ∷ other) h k = absurd
     (let long : suc (length (changed [] other)) ≡ 0 = ap length k in omega (arith, long))
 both_same (n ∷ one) [] h k = absurd (let long : suc (length (changed [] one)) ≡ 0 = ap length h in omega (arith, long))
 both_same (n ∷ one) (m ∷ other) h k =
-    let here = none_here (pointwise nat_eq m n) n (changed other one) (sym (first m n other one) ∙ h) in
-    let there = none_here (pointwise nat_eq n m) m (changed one other) (sym (first n m one other) ∙ k) in
+    let here = none_here _ n _ (sym (first m n other one) ∙ h) in
+    let there = none_here _ m _ (sym (first n m one other) ∙ k) in
     ap (λ (x : List ℕ). x ∷ one) (sym ((bytes_decides m n).0 here.0))
     ∙ ap (λ (xs : List (List ℕ)). m ∷ xs) (both_same one other here.1 there.1)
 
@@ -30,7 +30,7 @@ none_told (x ∷ xs) none = let some : 0 < length (x ∷ xs) =
 
 pub same_told : (one other : List (List ℕ)) → nat_lt 0 (length (changed other one)) ≡ false
     → nat_lt 0 (length (changed one other)) ≡ false → one ≡ other
-same_told one other h k = both_same one other (none_told (changed other one) h) (none_told (changed one other) k)
+same_told one other h k = both_same one other (none_told _ h) (none_told _ k)
 
 pub not_same : (one other : List (List ℕ)) → nat_lt 0 (length (changed other one)) ≡ true → one ≡ other → ⊥
 not_same one other some same =

@@ -5,7 +5,7 @@ use Rattle.interface.specs.declared.carrier.CarrierFault.TheVariants as fault
 use Rattle.interface.specs.declared.crossing.Crossing.TheVariants as crossing
 use Rattle.interface.specs.declared.crossing.Inbound.{Inbound}
 use Rattle.interface.specs.declared.crossing.Inbound.TheVariants as inbound
-use Rattle.leader1822.specs.Boxes.{Boxes, BoxesDecided, BoxesRound, BoxesTake, host_refusal, next_for, offer_refusal, offered, plain_calls, step_grows, step_refusal, stepped, take_grows, inbound_taken}
+use Rattle.leader1822.specs.Boxes.{Boxes, BoxesDecided, BoxesRound, BoxesTake, next_for, offer_refusal, offered, plain_calls, step_grows, step_refusal, stepped, inbound_taken}
 use Rattle.replay.specs.Settled.{AreSettled, Grows, SameEnd}
 
 -- ---- one call
@@ -47,7 +47,7 @@ pub same_step : {C : Type 0} (refusal : Option CarrierFault) (left old : C) (r q
     → IsDecided refusal (λ done. new ≡ left) old r new → IsDecided refusal (λ done. other ≡ left) old q other
     → SameEnd r q new other
 same_step refusal left old r q new other h k =
-    same_answer refusal (λ done. new ≡ left) (λ done. other ≡ left) old r q new other (λ x y a b. (refl, a ∙ sym b)) h k
+    same_answer refusal _ _ old r q new other (λ x y a b. (refl, a ∙ sym b)) h k
 
 -- ---- the calls of plain mailboxes
 
@@ -72,8 +72,8 @@ one_step : (refusal : Option CarrierFault) (grows : Bool) (left old : Boxes) (r 
     → BoxesDecided refusal grows (λ done. other ≡ left) old q other → GoesOn q → SameEnd r q new other
 one_step refusal grows left old r q new other h goes k on =
     same_step refusal left old r q new other
-    (settled refusal grows (λ done. new ≡ left) old r new h (goes_as r goes))
-    (settled refusal grows (λ done. other ≡ left) old q other k (goes_as q on))
+    (settled refusal grows _ old r new h (goes_as r goes))
+    (settled refusal grows _ old q other k (goes_as q on))
 
 one_taking : (old : Boxes) (g : Host) (r q : Result (Option Inbound) CarrierFault) (new other : Boxes)
     → BoxesTake old g r new → GoesOn (outcome_of r) → BoxesTake old g q other → GoesOn (outcome_of q)
@@ -81,10 +81,10 @@ one_taking : (old : Boxes) (g : Host) (r q : Result (Option Inbound) CarrierFaul
 one_taking old g r q new other h goes k on =
     let P : Option Inbound → Type 0 = λ o. (o ≡ next_for old g) × (new ≡ inbound_taken old g o) in
     let Q : Option Inbound → Type 0 = λ o. (o ≡ next_for old g) × (other ≡ inbound_taken old g o) in
-    same_answer (host_refusal old g) P Q old r q new other
+    same_answer _ P Q old r q new other
     (λ x y a b. (a.0 ∙ sym b.0, a.1 ∙ ap (inbound_taken old g) (a.0 ∙ sym b.0) ∙ sym b.1))
-    (settled (host_refusal old g) (take_grows old g) P old r new h (goes_back r goes))
-    (settled (host_refusal old g) (take_grows old g) Q old q other k (goes_back q on))
+    (settled _ _ P old r new h (goes_back r goes))
+    (settled _ _ Q old q other k (goes_back q on))
 
 one_round : (old : Boxes) (r q : Result (Unit {0}) CarrierFault) (new other : Boxes) → BoxesRound old r new → GoesOn r
     → BoxesRound old q other → GoesOn q → SameEnd r q new other

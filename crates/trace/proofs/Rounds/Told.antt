@@ -1,5 +1,5 @@
 -- A calm is traced round by round.
-use Rattle.trace.proofs.Common.{◌≡◌, ◌⊎◌, inl, inr, ℕ, ◌<◌, Bool, List, [], ◌∷◌, ◌++◌, length, Option, Some, Result, Ok, Err, false, true, arith, refl, reverse, sym, ap, subst, ◌∙◌, suc, Calls, Crossing, appends_none, last_shown, last_written, one_written, IsOneCall, RawEvent, Element, Spot, begins_in, by_round, elements_in, EndsRound, GoesOnWith, Inside, IsStill, MayTell, StopsElement, TellsElement, TellsMoving, TellsRound, TellsRounds, TellsStill, WritesTrace, AllParts}
+use Rattle.trace.proofs.Common.{◌≡◌, ◌⊎◌, inl, inr, ℕ, ◌<◌, Bool, List, [], ◌∷◌, ◌++◌, length, Option, Some, Result, Ok, Err, false, true, arith, refl, reverse, sym, ap, subst, ◌∙◌, suc, Calls, Crossing, appends_none, last_shown, last_written, one_written, IsOneCall, RawEvent, Element, Spot, begins_in, by_round, elements_in, EndsRound, GoesOnWith, Inside, IsStill, MayTell, StopsElement, TellsElement, TellsMoving, TellsRound, TellsRounds, WritesTrace, AllParts}
 use Rattle.std.proofs.lemmas.Bool.{eq-eqb, eqb-true}
 use Rattle.std.proofs.lemmas.List.{append_assoc, append-nil}
 use Rattle.replay.specs.InTurn.{EndsInTurn, Happening, InTurn}
@@ -31,8 +31,8 @@ pub still_or_moving : {C : Type 0} (calls : Calls C) (inside : Inside C) (spot :
     → IsStill calls inside old new ⊎ (IsStill calls inside old new → ⊥)
 still_or_moving calls inside spot old new round lines h =
     let (more, grown) = round_grown calls inside spot old new round lines h in
-    by (parts_or_not (inside.members new) (inside.members old))
-    (grew_or_not more (calls.seen old).log (calls.seen new).log grown)
+    by (parts_or_not _ _)
+    (grew_or_not more _ _ grown)
   where
     by : (inside.members new ≡ inside.members old) ⊎ (inside.members new ≡ inside.members old → ⊥)
         → ((calls.seen new).log ≡ (calls.seen old).log) ⊎ ((calls.seen new).log ≡ (calls.seen old).log → ⊥)
@@ -50,7 +50,7 @@ is_still calls inside spot old new round lines parts booked h begun now =
     record {
       parts = now.0 ∙ sym begun.0;
       log =
-          as_long more (calls.seen old).log (calls.seen new).log grown (now.1 ∙ sym begun.1);
+          as_long more _ _ grown (now.1 ∙ sym begun.1);
     }
 
 pub has_moved : {C : Type 0} (calls : Calls C) (inside : Inside C) (old new : C) (parts : AllParts) (booked : ℕ)
@@ -81,7 +81,7 @@ round_more calls inside left spot round old mid new begin place next x a b c (la
   all = one_more_in round h.done x h.all same;
   parts =
       h.parts ∙ ap (λ (xs : List Element). h.done ++ xs)
-      (is ∙ ap (λ (xs : List Element). x ∷ xs) (sym (after new k.is_shown.0 k.is_shown.1)))
+      (is ∙ ap (λ (xs : List Element). x ∷ xs) (sym (after new _ k.is_shown.1)))
       ∙ sym (append_assoc h.done (x ∷ []) (left new next));
   written = one_written (TellsElement calls inside spot) (λ line. line) old mid new h.done x a b c h.written k;
 }
@@ -93,7 +93,7 @@ pub round_shorter : {C P : Type 0} (calls : Calls C) (inside : Inside C) (left :
     → length (left new next) < length (left mid place)
 round_shorter calls inside left spot mid new place next x b c (later, one, is, after) k =
     let here : length (left mid place) ≡ suc (length later) = ap length is in
-    let there : length (left new next) ≡ length later = ap length (after new k.is_shown.0 k.is_shown.1) in
+    let there : length (left new next) ≡ length later = ap length (after new _ k.is_shown.1) in
     omega (arith, here, there)
 
 -- it is over where nothing is left, or an elementary event of another round
@@ -103,7 +103,7 @@ pub round_ends : {C P : Type 0} (calls : Calls C) (inside : Inside C) (left : C 
     → InRound calls inside left spot round old begin new place a b
     → RoundEnds calls inside left spot old begin (Ok place) new a b
 round_ends calls inside left spot round old new begin place a b begins over h =
-    (h.done, round_over round (left old begin) h.done (left new place) h.parts h.all begins over, h.written)
+    (h.done, round_over round _ h.done _ h.parts h.all begins over, h.written)
 
 pub over_here : {C P : Type 0} (calls : Calls C) (left : C → P → List Element) (round : ℕ) (new : C) (place next : P)
     (x : Element) → GoesOnWith calls left new place (Some (x, next)) → (x.round ≡ round → ⊥)
@@ -159,8 +159,8 @@ round_early {C} {P} calls inside left spot round old mid new begin place next x 
         front ++ x ∷ begun.more,
         begun.later,
         rounds,
-        last_written (TellsElement calls inside spot) (StopsElement calls) (λ line. line) old mid new
-            (front ++ x ∷ begun.more) front x begun.more a b c refl h.written k,
+        last_written _ _ _ old mid new
+            _ front x _ a b c refl h.written k,
       )
       by (Err fault.OutOfMemory) (Err fault.CannotWrite) k same = absurd (apart same)
       by (Err fault.CannotWrite) (Ok p) k same = absurd same
@@ -170,8 +170,8 @@ round_early {C} {P} calls inside left spot round old mid new begin place next x 
         begun.later,
         rounds,
         h.written.shown ++ k.0,
-        last_shown (TellsElement calls inside spot) (MayTell calls) old mid new
-            (front ++ x ∷ begun.more) front x begun.more h.written.shown k.0 refl h.written.is_shown k.1,
+        last_shown _ _ old mid new
+            _ front x _ _ k.0 refl h.written.is_shown k.1,
       )
 
 -- ---- rounds
@@ -183,8 +183,8 @@ pub rounds_end : {C P : Type 0} (calls : Calls C) (inside : Inside C) (left : C 
     → RoundEnds calls inside left spot mid place (Ok next) new b c → IsStill calls inside mid new
     → WritesTrace (TellsRounds calls inside spot old all new) a c
 rounds_end calls inside left spot old mid new place next all a b c h (round, is, written) still =
-    let k = ends_told (TellsMoving calls inside spot) (TellsStill calls inside spot) old mid new all
-    (by_round (left mid place)) (by_round (left new next)) round a b c is h
+    let k = ends_told _ _ old mid new all
+    _ _ round a b c is h
     (record { shown = written.shown; is_shown = (written.is_shown, still); written = written.written }) in
     record { shown = k.shown; is_shown = inr k.is_shown; written = k.written }
 
@@ -198,7 +198,7 @@ pub still_told : {C P : Type 0} (calls : Calls C) (inside : Inside C) (left : C 
     → WritesTrace (TellsRounds calls inside spot old all new) a c
 still_told calls inside left spot old mid new place next all parts booked a b c h k begun now =
     rounds_end calls inside left spot old mid new place next all a b c h k
-    (is_still calls inside spot mid new k.0 k.2.shown parts booked k.2.is_shown begun now)
+    (is_still calls inside spot mid new k.0 _ parts booked k.2.is_shown begun now)
 
 -- ---- where rounds end early
 
@@ -207,12 +207,12 @@ pub round_stops : {C P : Type 0} (calls : Calls C) (inside : Inside C) (left : C
     (mid : C) (place next : P) (x : Element) (a : Option (List ℕ)) → GoesOnWith calls left mid place (Some (x, next))
     → RoundEnds calls inside left spot mid place (Err fault.OutOfMemory) mid a a
 round_stops calls inside left spot mid place next x a (later, one, is, after) =
-    let begun : Begins (by_round (x ∷ later)) [] x = round_begun x.round [] x later tt refl in (
+    let begun : Begins (by_round (x ∷ later)) [] x = round_begun _ [] x later tt refl in (
       x ∷ begun.more,
       begun.later,
       ap by_round is ∙ begun.is,
-      last_written (TellsElement calls inside spot) (StopsElement calls) (λ line. line) mid mid mid
-          (x ∷ begun.more) [] x begun.more a a a refl
+      last_written _ _ _ mid mid mid
+          _ [] x _ a a a refl
           (record { shown = []; is_shown = (refl, refl); written = appends_none a })
           (record { shown = []; is_shown = inl (refl, refl); written = appends_none a }),
     )
@@ -282,8 +282,8 @@ one_round : {C : Type 0} (calls : Calls C) (inside : Inside C) (spot : Spot) (ol
 one_round calls inside spot old new round lines h = by (still_or_moving calls inside spot old new round lines h) where
   by : IsStill calls inside old new ⊎ (IsStill calls inside old new → ⊥)
       → TellsRounds calls inside spot old (round ∷ []) new lines
-  by (inl still) = inr (last_shown (TellsMoving calls inside spot) (TellsStill calls inside spot) old old new
-      (round ∷ []) [] round [] [] lines refl (refl, refl) (h, still))
+  by (inl still) = inr (last_shown _ _ old old new
+      _ [] round [] [] lines refl (refl, refl) (h, still))
   by (inr moved) = inl (new, lines, [], (h, moved), (refl, refl), sym (append-nil lines))
 
 none_written : {S E : Type 0} (Happens : Happening S E (List ℕ)) (old : S) (a : Option (List ℕ))
@@ -299,20 +299,20 @@ one_ends_so calls inside spot old new x (Ok done) a c k =
     record {
       shown = round.shown;
       is_shown =
-          one_round calls inside spot old new (x ∷ []) round.shown round.is_shown;
+          one_round calls inside spot old new _ _ round.is_shown;
       written = round.written;
     }
 one_ends_so calls inside spot old new x (Err fault.OutOfMemory) a c k =
-    last_written (TellsMoving calls inside spot) (EndsRound calls inside (StopsElement calls) spot)
-    (λ line. line) old old new ((x ∷ []) ∷ []) [] (x ∷ []) [] a a c refl
+    last_written _ _
+    _ old old new _ [] _ [] a a c refl
     (none_written (TellsMoving calls inside spot) old a)
-    (last_written (TellsElement calls inside spot) (StopsElement calls) (λ line. line) old old new
-    (x ∷ []) [] x [] a a c refl (none_written (TellsElement calls inside spot) old a) k)
+    (last_written _ _ _ old old new
+    _ [] x [] a a c refl (none_written (TellsElement calls inside spot) old a) k)
 one_ends_so calls inside spot old new x (Err fault.CannotWrite) a c (lines, goes) = (
   lines,
-  last_shown (TellsMoving calls inside spot) (EndsRound calls inside (MayTell calls) spot) old old new
-      ((x ∷ []) ∷ []) [] (x ∷ []) [] [] lines refl (refl, refl)
-      (last_shown (TellsElement calls inside spot) (MayTell calls) old old new (x ∷ []) [] x [] [] lines refl
+  last_shown _ _ old old new
+      _ [] _ [] [] lines refl (refl, refl)
+      (last_shown _ _ old old new _ [] x [] [] lines refl
       (refl, refl) goes),
 )
 
@@ -321,6 +321,6 @@ pub one_ends : {C : Type 0} (calls : Calls C) (inside : Inside C) (old new : C) 
     → elements_in (inside.calm old) e ≡ x ∷ [] → ElementEnds calls inside spot old x r new a c
     → EventEnds calls inside old (spot, e) r new a c
 one_ends calls inside old new spot e x r a c is h =
-    event_ends calls inside old new (spot, e) r a c
+    event_ends calls inside old new _ r a c
     (subst (λ (xs : List Element). RoundsEnd calls inside spot old (by_round xs) r new a c) (sym is)
     (one_ends_so calls inside spot old new x r a c h))

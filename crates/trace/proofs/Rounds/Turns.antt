@@ -1,5 +1,5 @@
 -- In the middle of a calm of plain mailboxes.
-use Rattle.trace.proofs.Common.{◌≡◌, ◌&&◌, ◌||◌, not, nat_lt, is_some, ◌-◌, ◌<◌, ◌+◌, ℕ, suc, true, false, List, [], ◌∷◌, drop, length, Option, Some, None, Result, Ok, Err, refl, sym, ap, ◌∙◌, subst, arith, lt-ltb, is_halt, is_memory, Host, is_host, Shown, GoesOn, Happens, outcome_of, Element, GoesOnWith}
+use Rattle.trace.proofs.Common.{◌≡◌, ◌&&◌, ◌||◌, not, nat_lt, is_some, ◌-◌, ◌<◌, ◌+◌, ℕ, suc, true, false, List, [], ◌∷◌, drop, length, Option, Some, None, Result, Ok, Err, refl, sym, ap, ◌∙◌, subst, arith, lt-ltb, Host, is_host, Shown, GoesOn, Happens, outcome_of, Element, GoesOnWith}
 use Rattle.leader1822.specs.Boxes.{Boxes, WaitingAnswer, answer_first, first_of_list, for_host, host_refusal, inbound_taken, is_running, next_for, take_grows, plain_calls}
 use Rattle.interface.specs.declared.CarrierFault.{CarrierFault}
 use Rattle.interface.specs.declared.HostMessage.{HostMessage}
@@ -25,15 +25,15 @@ taken b new h shown given k = by k.gives.0 k.gives.1 (subst GoesOn k.gives.2 k.g
         → new ≡ inbound_taken b h (next_for b h)
     by (Ok o) t goes =
         let w : Went (host_refusal b h) (λ o. (o ≡ next_for b h) × (new ≡ inbound_taken b h o)) b (Ok o) new =
-        went (host_refusal b h) (take_grows b h) (λ o. (o ≡ next_for b h) × (new ≡ inbound_taken b h o)) b
+        went _ (take_grows b h) (λ o. (o ≡ next_for b h) × (new ≡ inbound_taken b h o)) b
         (Ok o) new t tt in
         w.1.1 ∙ ap (λ o. inbound_taken b h o) w.1.0
     by (Err f) t goes =
         let w : Went (host_refusal b h) (λ o. (o ≡ next_for b h) × (new ≡ inbound_taken b h o)) b (Err f) new =
-        went (host_refusal b h) (take_grows b h) (λ o. (o ≡ next_for b h) × (new ≡ inbound_taken b h o)) b
+        went _ _ (λ o. (o ≡ next_for b h) × (new ≡ inbound_taken b h o)) b
         (Err f) new t goes in
         let down : is_running b.hosts b.down h ≡ false =
-        refused_is b h f w.0 (or_first (is_halt f) (is_memory f) goes) in
+        refused_is b h f w.0 (or_first _ _ goes) in
         let bad : false ≡ true = rw down at given in
         absurd (cc)
 
@@ -79,7 +79,7 @@ next_round b t lt over =
     ∙ ap (λ (n : ℕ). (rounds_from round_of (suc t.round) n b).elements) one
     ∙ ap (λ (c : Course Boxes). (then_course c
     (rounds_from round_of (suc (suc t.round)) (t.rounds - (t.round + 1)))).elements)
-    (takings_all from_boxes (suc t.round) b.hosts b)
+    (takings_all from_boxes _ _ b)
     ∙ ap (λ (n : ℕ). (then_course (takings_from from_boxes n b.hosts 16 b)
     (rounds_from round_of (suc n) (t.rounds - (t.round + 1)))).elements) up
 
@@ -90,15 +90,15 @@ idle_calm : (b : Boxes) (round rounds : ℕ)
 idle_calm b round rounds none =
     ap (λ (c : Course Boxes). rest_of_calm round_of round rounds c) none
     ∙ ap (λ (c : Course Boxes). c.elements)
-    (idle_rounds round_of (suc round) (rounds - round) b
-    (λ other. idle_takings from_boxes round other b.hosts b (takings_all from_boxes round b.hosts b ∙ none)))
+    (idle_rounds round_of _ _ b
+    (λ other. idle_takings from_boxes round other b.hosts b (takings_all from_boxes round _ b ∙ none)))
 
 -- where a round is over, the calm continues as the next one does
 pub in_next_round : (b : Boxes) (t : Turn) (next : Option (Element × Turn)) → t.round < t.rounds
     → round_left b t ≡ no_course b → IsNext b
     (record { round = t.round + 1; rounds = t.rounds; host = 0; times = 16 }) next
     → GoesOnWith plain_calls calm_left b t next
-in_next_round b t None lt over h = next_round b t lt over ∙ idle_calm b (t.round + 1) t.rounds h
+in_next_round b t None lt over h = next_round b t lt over ∙ idle_calm b _ _ h
 in_next_round b t (Some next) lt over h =
     let goes : GoesOnWith plain_calls calm_left b
     (record { round = t.round + 1; rounds = t.rounds; host = 0; times = 16 }) (Some next) =
@@ -119,4 +119,4 @@ pub given_is : (b : Boxes) (h : Host) → is_host b.hosts h ≡ true
     → is_given b h ≡ (not (is_host b.down h) &&
     (nat_lt 0 (length (for_host b.answers h)) || nat_lt 0 (length (for_host b.messages h))))
 given_is b h there = ap (λ t. (t && not (is_host b.down h)) && is_some (next_for b h)) there
-    ∙ ap (λ t. not (is_host b.down h) && t) (waits (for_host b.answers h) (for_host b.messages h))
+    ∙ ap (λ t. not (is_host b.down h) && t) (waits _ _)

@@ -63,38 +63,38 @@ abbrev settled : Boxes
 settled = inbound_taken answered first (Some (inbound.Answer answer.Rfnm flow))
 
 messages_third : for_host one_waits.messages third ≡ short ∷ []
-messages_third = for_here _ third (for_host _ third ++ short ∷ [])
+messages_third = for_here _ third _
     ∙ ap (λ (ms : List HostMessage). ms ++ short ∷ []) (none_for third)
 
 messages_first : for_host one_waits.messages first ≡ []
-messages_first = for_other _ third (for_host _ third ++ short ∷ []) first refl ∙ none_for first
+messages_first = for_other _ third _ first refl ∙ none_for first
 
 none_third : for_host answered.messages third ≡ []
-none_third = for_here one_waits.messages third (rest (for_host one_waits.messages third))
+none_third = for_here _ third _
     ∙ ap (λ (ms : List HostMessage). rest ms) messages_third
 
 none_first : for_host answered.messages first ≡ []
-none_first = for_other one_waits.messages third (rest (for_host one_waits.messages third)) first refl ∙ messages_first
+none_first = for_other _ third _ first refl ∙ messages_first
 
 answer_waits : for_host answered.answers first ≡ (answer.Rfnm, flow) ∷ []
-answer_waits = for_here _ first (for_host _ first ++ (answer.Rfnm, flow) ∷ [])
+answer_waits = for_here _ first _
     ∙ ap (λ (xs : List WaitingAnswer). xs ++ (answer.Rfnm, flow) ∷ []) (none_for first)
 
 no_answer : for_host answered.answers third ≡ []
-no_answer = for_other _ first (for_host _ first ++ (answer.Rfnm, flow) ∷ []) third refl ∙ none_for third
+no_answer = for_other _ first _ third refl ∙ none_for third
 
 taken_answer : for_host settled.answers first ≡ []
-taken_answer = for_here answered.answers first (rest (for_host answered.answers first))
+taken_answer = for_here _ first _
     ∙ ap (λ (xs : List WaitingAnswer). rest xs) answer_waits
 
 still_no_answer : for_host settled.answers third ≡ []
-still_no_answer = for_other answered.answers first (rest (for_host answered.answers first)) third refl ∙ no_answer
+still_no_answer = for_other _ first _ third refl ∙ no_answer
 
 next_message : next_for one_waits third ≡ Some (inbound.Message short)
-next_message = next_is one_waits third [] (short ∷ []) (none_for third) messages_third
+next_message = next_is one_waits third [] _ (none_for third) messages_third
 
 next_answer : next_for answered first ≡ Some (inbound.Answer answer.Rfnm flow)
-next_answer = next_is answered first ((answer.Rfnm, flow) ∷ []) [] answer_waits none_first
+next_answer = next_is answered first _ [] answer_waits none_first
 
 -- the first host finds nothing yet, and the third the message
 first_round : all_takings from_boxes 1

@@ -1,5 +1,6 @@
 -- What is traced of a calm says all of it: over any carrier whose calls leave a replay no choice.
-use Rattle.trace.proofs.Common.{eqb-true, Calls, Shown, shown_crossings, shown_refusal, AreSettled, RawEvent, Element, Spot, Course, begins_in, by_round, events_of, rounds_from, Inside, IsStill, SaysAll, TellsElement, TellsEvent, TellsMoving, TellsRound, TellsRounds, TellsStill}
+use Rattle.trace.proofs.Common.{eqb-true, Calls, Shown, shown_crossings, shown_refusal, AreSettled, RawEvent, Element, Spot, Course, begins_in, by_round, events_of, rounds_from, Inside, IsStill, SaysAll, TellsElement, TellsEvent, TellsMoving, TellsRound, TellsRounds}
+use Rattle.trace.specs.Traces.{TellsStill}
 use Rattle.std.proofs.Common.{◌≡◌, ◌⊎◌, inl, inr, ◌==◌, ◌<◌, ℕ, zero, suc, Bool, true, false, List, [], ◌∷◌, ◌++◌, length, Result, Ok, Err, arith, refl, sym, ap, ◌∙◌, subst}
 use Rattle.std.proofs.lemmas.List.{append_assoc, append-nil, map-append}
 use Rattle.interface.specs.declared.CarrierFault.{CarrierFault}
@@ -138,8 +139,8 @@ later_begins : {S : Type 0} (whole : ℕ → S → Course S) → ((round : ℕ) 
     → begins_in round (rounds_from whole other times s).elements ≡ false
 later_begins whole numbered round other zero s less = refl
 later_begins whole numbered round other (suc times) s less =
-    other_begins round other (whole other s).elements
-    (rounds_from whole (suc other) times (whole other s).left).elements (numbered other s) less
+    other_begins round other _
+    _ (numbered other s) less
     (later_begins whole numbered round (suc other) times (whole other s).left (omega (arith, less)))
 
 module _ {C S : Type 0} (x : Traced C S) (inside : Inside C) (whole : ℕ → S → Course S)
@@ -173,8 +174,8 @@ module _ {C S : Type 0} (x : Traced C S) (inside : Inside C) (whole : ℕ → S 
             → Goes x old (whole round (x.view old)) (Ok tt) mid → Rounds x.calls times mid r new → (r ≡ Ok tt)
             × (new ≡ old)
         by others mid g more =
-            let one = replays_once x.calls are.settled old (events_of (whole round (x.view old)).elements) mid old
-            (shown_crossings g.run.crossings) (shown_crossings still.run.crossings) g.run.replays still.run.replays in
+            let one = replays_once _ are.settled old _ mid old
+            _ _ g.run.replays still.run.replays in
             others (subst (λ (c : C). Rounds x.calls times c r new) one.carriers more)
 
   -- what is traced of rounds, and what all of them leave
@@ -199,10 +200,10 @@ module _ {C S : Type 0} (x : Traced C S) (inside : Inside C) (whole : ℕ → S 
   joined spot old mid new other round first rest lines r tells run all h = record {
     told = round ++ h.told;
     tells = subst (λ (ls : List (List ℕ)). InTurn (TellsElement x.calls inside spot) old (round ++ h.told) new ls)
-        (sym all) (in_turn_then (TellsElement x.calls inside spot) old mid new round h.told first rest tells h.tells);
+        (sym all) (in_turn_then _ old mid new round h.told first rest tells h.tells);
     run = subst (λ (es : List RawEvent). Run x.calls old es other)
         (sym (map-append (λ (y : Element). y.event) round h.told))
-        (run_then x.calls old mid other (events_of round) (events_of h.told) run h.run);
+        (run_then _ old mid other _ _ run h.run);
     same = h.same;
     ok = h.ok;
   }
@@ -212,18 +213,18 @@ module _ {C S : Type 0} (x : Traced C S) (inside : Inside C) (whole : ℕ → S 
       → TellsRounds x.calls inside spot old (by_round (rounds_from whole round times (x.view old)).elements) new lines
       → Says spot old new lines r other
   told_rounds spot round zero old new other lines r holds k goes t =
-      let none : (new ≡ old) × (lines ≡ []) = none_told x.calls inside spot old new lines t in
+      let none : (new ≡ old) × (lines ≡ []) = none_told _ inside spot old new lines t in
       record {
         told = [];
         tells = none;
         run =
-            subst (λ (c : C). Run x.calls old [] c) (sym k.1) (run_none x.calls old);
+            subst (λ (c : C). Run x.calls old [] c) (sym k.1) (run_none _ old);
         same = k.1 ∙ sym none.0;
         ok = k.0;
       }
   told_rounds spot round (suc times) old new other lines r holds k goes t =
       by (λ mid ls kept more tells. told_rounds spot (suc round) times mid new other ls r kept more goes tells)
-      (whole round (x.view old)).elements refl t
+      (whole round _).elements refl t
     where
       h : Next round times old r other
       h = next round times old r other holds k goes
@@ -256,7 +257,7 @@ module _ {C S : Type 0} (x : Traced C S) (inside : Inside C) (whole : ℕ → S 
           (onward others old lines (sym stays)
           (subst (λ (es : List Element). TellsRounds x.calls inside spot old (by_round (es ++ later)) new lines)
           none t))
-      by others (y ∷ es) some t = of (opened_rounds x.calls inside spot old (y ∷ es) (by_round later) new lines apart)
+      by others (y ∷ es) some t = of (opened_rounds _ inside spot old _ _ new lines apart)
         where
           all : AllIn round (y ∷ es)
           all = subst (AllIn round) some (are.numbered round (x.view old))
@@ -265,8 +266,8 @@ module _ {C S : Type 0} (x : Traced C S) (inside : Inside C) (whole : ℕ → S 
           apart =
               subst (λ (rounds : List (List Element)). TellsRounds x.calls inside spot old rounds new lines)
               (ap (λ (es : List Element). by_round (es ++ later)) some
-              ∙ whole_round round y es later all (later_begins whole are.numbered round (suc round) times
-              (whole round (x.view old)).left (omega arith))) t
+              ∙ whole_round round y es later all (later_begins whole are.numbered round _ times
+              _ (omega arith))) t
 
           run : Run x.calls old (events_of (y ∷ es)) h.mid
           run = subst (λ (es : List Element). Run x.calls old (events_of es) h.mid) some h.goes.run
@@ -274,11 +275,11 @@ module _ {C S : Type 0} (x : Traced C S) (inside : Inside C) (whole : ℕ → S 
           of : Opened x.calls inside spot old (y ∷ es) (by_round later) new lines → Says spot old new lines r other
           of o = at o.after where
             replayed : (shown : List Shown) × Replays x.calls old (events_of (y ∷ es)) o.mid shown
-            replayed = round_replays x.calls inside spot old o.mid (y ∷ es) o.first o.told
+            replayed = round_replays x.calls inside spot old o.mid (y ∷ es) _ o.told
 
             here : o.mid ≡ h.mid
-            here = (replays_once x.calls are.settled old (events_of (y ∷ es)) o.mid h.mid replayed.0
-                (shown_crossings run.crossings) replayed.1 run.replays).carriers
+            here = (replays_once _ are.settled old (events_of (y ∷ es)) o.mid h.mid _
+                _ replayed.1 run.replays).carriers
 
             told : TellsRound x.calls inside spot old (y ∷ es) h.mid o.first
             told = subst (λ (c : C). TellsRound x.calls inside spot old (y ∷ es) c o.first) here o.told
@@ -292,15 +293,15 @@ module _ {C S : Type 0} (x : Traced C S) (inside : Inside C) (whole : ℕ → S 
                 let end = nothing_more round times old r other holds
                 (subst (λ (c : C). Goes x old (whole round (x.view old)) (Ok tt) c) stays h.goes)
                 (subst (λ (c : C). Rounds x.calls times c r other) stays h.more) goes in
-                joined spot old h.mid new other (y ∷ es) o.first o.rest lines r told run o.all
+                joined spot old h.mid new other (y ∷ es) _ o.rest lines r told run o.all
                 (record {
                   told = [];
                   tells = (last ∙ here, none);
-                  run = subst (λ (c : C). Run x.calls h.mid [] c) (stays ∙ sym end.1) (run_none x.calls h.mid);
+                  run = subst (λ (c : C). Run x.calls h.mid [] c) (stays ∙ sym end.1) (run_none _ h.mid);
                   same = end.1 ∙ sym stays ∙ sym here ∙ sym last;
                   ok = end.0;
                 })
-            at (inr (moved, more)) = joined spot old h.mid new other (y ∷ es) o.first o.rest lines r told run o.all
+            at (inr (moved, more)) = joined spot old h.mid new other (y ∷ es) _ o.rest lines r told run o.all
                 (onward others o.mid o.rest here more)
 
   -- an event of one call is traced whole
@@ -309,7 +310,7 @@ module _ {C S : Type 0} (x : Traced C S) (inside : Inside C) (whole : ℕ → S 
       → Happens x.calls old e other shown
       → SaysAll x.calls inside spot old new lines other shown
   one_told spot old new other e lines shown t k =
-      of (opened_rounds x.calls inside spot old (one ∷ []) [] new lines t) where
+      of (opened_rounds _ inside spot old _ [] new lines t) where
         one : Element
         one = record { round = 0; event = e }
 
@@ -328,8 +329,8 @@ module _ {C S : Type 0} (x : Traced C S) (inside : Inside C) (whole : ℕ → S 
           at : (new ≡ o.mid) × (o.rest ≡ []) → SaysAll x.calls inside spot old new lines other shown
           at (last, none) =
               let whole : lines ≡ o.first = o.all ∙ ap (λ ls. o.first ++ ls) none ∙ append-nil o.first in
-              let (own, replayed) = round_replays x.calls inside spot old o.mid (one ∷ []) o.first o.told in
-              let same = replays_once x.calls are.settled old (e ∷ []) other o.mid shown own alone replayed in
+              let (own, replayed) = round_replays _ inside spot old o.mid (one ∷ []) _ o.told in
+              let same = replays_once _ are.settled old (e ∷ []) other o.mid shown own alone replayed in
               record {
                 told = one ∷ [];
                 tells =
@@ -347,12 +348,12 @@ module _ {C S : Type 0} (x : Traced C S) (inside : Inside C) (whole : ℕ → S 
       → SaysAll x.calls inside spot old new lines other shown
   calm_told spot old new other rounds lines shown holds t k =
       let says : Says spot old new lines k.outcome other =
-      told_rounds spot 1 rounds old new other lines k.outcome holds k.gives k.goes_on
+      told_rounds spot 1 rounds old new other lines _ holds k.gives k.goes_on
       (subst (λ (es : List Element). TellsRounds x.calls inside spot old (by_round es) new lines)
       (are.calm old rounds) t) in
       let crossings : says.run.crossings ≡ k.crossings =
-      crossings_are says.run.crossings k.crossings (x.calls.seen old).log
-      (x.calls.seen other).log says.run.grown k.grown in
+      crossings_are _ _ _
+      _ says.run.grown k.grown in
       let prints : shown_crossings says.run.crossings ≡ shown =
       ap shown_crossings crossings ∙ sym (append-nil (shown_crossings k.crossings))
       ∙ ap (λ r. shown_crossings k.crossings ++ shown_refusal r) (sym says.ok) ∙ sym k.lines in
@@ -369,8 +370,8 @@ module _ {C S : Type 0} (x : Traced C S) (inside : Inside C) (whole : ℕ → S 
   says_all spot old new other (event.Calm rounds) lines shown holds t k =
       calm_told spot old new other rounds lines shown holds t k
   says_all spot old new other (event.Out m) lines shown holds t k =
-      one_told spot old new other (event.Out m) lines shown t k
+      one_told spot old new other _ lines shown t k
   says_all spot old new other (event.Take h) lines shown holds t k =
-      one_told spot old new other (event.Take h) lines shown t k
+      one_told spot old new other _ lines shown t k
   says_all spot old new other (event.Net e) lines shown holds t k =
-      one_told spot old new other (event.Net e) lines shown t k
+      one_told spot old new other _ lines shown t k

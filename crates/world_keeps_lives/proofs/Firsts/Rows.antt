@@ -1,20 +1,35 @@
 -- Books whose messages that went out are those of lives, and books whose aren't.
 use Rattle.world_keeps_lives.proofs.Common.{Contains, option_map, Crossing, HostMessage, before, receives, Life}
 use Rattle.std.proofs.Common.{◌≡◌, inl, inr, ℕ, ◌<◌, ◌≤◌, ◌==◌, true, false, List, [], ◌∷◌, drop, length, Option, Some, refl, ap, sym, subst, ◌∙◌, arith}
+use Rattle.bit_messages.specs.Octets.{octets_of}
+use Rattle.ncp_control.specs.Reading.{command_of, read_of}
+use Rattle.host_pairs.specs.Control.{orders_of}
 use Rattle.promise.specs.Formed.{CrossedAt, texts_on, flow_of, link_of}
+use Rattle.promise.specs.Safe.{sends}
 use Rattle.net_sim.specs.WorkedMoments.{eight_sent}
 use Rattle.world_keeps_lives.specs.Firsts.{AreApart, IsSentIn, FirstBook, texts_before}
-use Rattle.world_keeps_lives.specs.WorkedFormed.{gave, sent_log, took, two_log, zeros_sent}
+use Rattle.world_keeps_lives.specs.WorkedFormed.{gave, sent_log, stray_log, took, two_log, zeros_sent}
 use Rattle.interface.specs.declared.crossing.Crossing.TheVariants as crossing
 use Rattle.world_keeps_lives.proofs.FormedRows.{rts_named}
 use Rattle.world_keeps_lives.proofs.Walk.Rules.{Each, each_in}
 
 -- the link of the sending life
-gave_sent : link_of sent_log gave ≡ Some 2
+pub gave_sent : link_of sent_log gave ≡ Some 2
 gave_sent = rts_named
 
-gave_two : link_of two_log gave ≡ Some 2
+pub gave_two : link_of two_log gave ≡ Some 2
 gave_two = rts_named
+
+pub gave_stray : link_of stray_log gave ≡ Some 2
+unfolding octets_of orders_of read_of command_of
+gave_stray = refl
+
+-- it doesn't receive, nor does the receiving life send
+pub not_receiving : (x : Life) → x ≡ gave → receives x ≡ true → ⊥
+not_receiving x is on = absurd (let no : false ≡ true = ap receives (sym is) ∙ on in cc)
+
+pub not_sending : (x : Life) → x ≡ took → sends x ≡ true → ⊥
+not_sending x is on = absurd (let no : false ≡ true = ap sends (sym is) ∙ on in cc)
 
 pub row_twice : AreApart sent_log (gave ∷ gave ∷ []) → ⊥
 row_twice a = elim (a.0.0 (refl, refl, refl)) [

@@ -1,7 +1,7 @@
 -- Rows of traces among strangers.
 use Rattle.world_trace.proofs.Common.{◌≡◌, ◌⊎◌, inl, inr, ℕ, List, [], ◌∷◌, ◌++◌, Result, codes, ap, ap₂, ◌∙◌, Calls, Seen, AllParts, Spot, WorldState, beside_third, Event, WorldFault, TopologyFields, WorldEvent}
 use Rattle.std.specs.Fmt.{digits}
-use Rattle.net_sim.specs.MixedWorlds.{MixedStepGives}
+use Rattle.net_sim.specs.Steps.{StepGives}
 use Rattle.world_script.specs.declared.event.WorldEvent.TheVariants as script
 use Rattle.world_trace.specs.MixedTraces.{AfterMixedOpening, AllTell, MayTellMixed, MixedTraceFails, StopsMixed, TellsMixedAt}
 use Rattle.world_trace.specs.Texts.{opening_text}
@@ -31,12 +31,12 @@ module _ {C : Type 0} (calls : Calls C) where
   row_calm members spot old new rounds lines h = h.1
 
   pub row_memory : (old new : WorldState C) (e : Event) (lines : List (List ℕ)) → StopsMixed calls old e new lines
-      → (lines ≡ []) × ((new ≡ old) ⊎ ((r : Result (Unit {0}) WorldFault) × MixedStepGives calls old e r new))
+      → (lines ≡ []) × ((new ≡ old) ⊎ ((r : Result (Unit {0}) WorldFault) × StepGives calls old e r new))
   row_memory old new e lines (inl h) = (h.0, inl h.1)
   row_memory old new e lines (inr h) = (h.0, inr h.1)
 
   pub row_failed : (old new : WorldState C) (e : Event) (lines : List (List ℕ)) → MayTellMixed calls old e new lines
-      → (lines ≡ []) × ((r : Result (Unit {0}) WorldFault) × MixedStepGives calls old e r new)
+      → (lines ≡ []) × ((r : Result (Unit {0}) WorldFault) × StepGives calls old e r new)
   row_failed old new e lines h = h
 
   pub row_nothing : (members : C → AllParts) (old new : WorldState C) → MixedTraceFails calls members old [] new → ⊥

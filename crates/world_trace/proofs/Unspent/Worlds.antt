@@ -1,9 +1,10 @@
 -- Each event of a world that has not stopped leaves memory lasting in all programs and services.
 use Rattle.world_trace.proofs.Common.{false≢true, All-cons, All-head, All-nil, All-tail, All, Notice, ServiceDeskState, ServicesState, no_services, opening_desk, line_bits, Host, same_host, Crossing, all_told, asked, crossed, Event, WorldFault, Seat, ServiceSeat, accepted, NcpState, opening_state, refusal, served, served_notices, next_out, offered, NcpFault, Request, WorldEvent, Lasts, ProgramLasts, SeatLasts, ServiceLasts, ServicesLast, MatchBool}
-use Rattle.std.proofs.Common.{◌≡◌, inr, ℕ, zero, suc, Bool, true, false, List, [], ◌∷◌, if◌then◌else◌, length, nat_lt, Option, Some, None, IfSome, Result, Ok, Err, refl, ap, sym, subst, ◌∙◌, inl, find}
+use Rattle.std.proofs.Common.{◌≡◌, ◌⊎◌, inr, ℕ, zero, suc, Bool, true, false, List, [], ◌∷◌, if◌then◌else◌, length, nat_lt, Option, Some, None, IfSome, Result, Ok, Err, refl, ap, sym, subst, ◌∙◌, inl, find}
 use Rattle.interface.specs.Calls.{Calls, crossing_of, is_halt, is_memory, Seen, step_crossings}
 use Rattle.interface.proofs.lemmas.{same_host-true, or_false}
-use Rattle.net_sim.specs.World.{AskGives, AtSeat, DoesOrHalts, Halts, OfferEnds, OfferGives, QuietEnds, StepGives, TakeEnds, TakeGives, TypeGives, WorldState, noticed, opening_seats, opening_services, opening_world, seat_of, seated, serviced, services_of, stops, tended, up_in, with_program, with_server, with_services, with_user, world_heard, world_moved, AtProgram, Calms, Does, EventGives, NetEnds, Passes, Refuses, Repeats, TurnsOf, all_emptied, all_turned, changed, emptied, seats_turned, served_at, services_in, turn_of, with_carrier}
+use Rattle.net_sim.specs.Steps.{AmongGives, FetchEnds, OutEnds, StepGives, asked_at, is_strange, strange_in}
+use Rattle.net_sim.specs.World.{AskGives, AtSeat, DoesOrHalts, Halts, OfferEnds, OfferGives, QuietEnds, TurnGives, TakeEnds, TakeGives, TypeGives, WorldState, noticed, opening_seats, opening_services, opening_world, seat_of, seated, serviced, services_of, stops, tended, up_in, with_program, with_server, with_services, with_user, world_heard, world_moved, AtProgram, Calms, Does, EventGives, NetEnds, Passes, Refuses, Repeats, TurnsOf, all_emptied, all_turned, changed, emptied, seats_turned, served_at, services_in, turn_of, with_carrier}
 use Rattle.net_sim.specs.declared.event.Event.TheVariants.{Ask, Offer, Out, Quiet, Server, Take, Typed, User, Net}
 use Rattle.host_services.specs.Turns as services
 use Rattle.interface.specs.declared.CarrierFault.{CarrierFault}
@@ -12,12 +13,13 @@ use Rattle.interface.specs.declared.HostMessage.{HostMessage}
 use Rattle.interface.specs.declared.Inbound.{Inbound}
 use Rattle.interface.specs.declared.NetEvent.{NetEvent}
 use Rattle.interface.specs.declared.crossing.Crossing.TheVariants as crossing
-use Rattle.net_sim.specs.declared.event.WorldFault.TheVariants.{Carrier}
+use Rattle.net_sim.specs.declared.event.WorldFault.TheVariants.{Carrier, NoProgram}
 use Rattle.net_sim.proofs.lemmas.{calm_keeps, memory_stops}
 use Rattle.sockets.specs.declared.request.Request.TheVariants as request
 use Rattle.world_replay.specs.Output.{Shown}
 use Rattle.world_replay.specs.Replay.{Happens, Replays}
 use Rattle.world_replay.specs.Replay as replay
+use Rattle.world_replay.proofs.lemmas.{on_either}
 use Rattle.world_script.specs.declared.event.WorldEvent.TheVariants as script
 use Rattle.world_trace.proofs.Unspent.Programs.{BothLast, accepted_lasts, offered_lasts, served_lasts, server_last, told_last, user_last}
 
@@ -233,6 +235,34 @@ module _ {C : Type 0} (calls : Calls C) where
       at_host h (λ s. TypeGives h line s (services_of h old.services).typing old r new) old r new (λ s is g. type_went h line s (services_of h old.services).typing old r new is g w) t w
   event_went (Out m) old r new w t = unchanged old r new t.1 w
 
+  -- ---- strangers
+
+  -- what a stranger sends or takes
+  strange_went : (c : C) (x : Crossing) (old : WorldState C) (r : Answer) (new : WorldState C) → Does (changed c (x ∷ []) old) r new ⊎ Halts c old r new → Runs old → Went r new
+  strange_went c x old r new ends w = elim ends [
+    | inl d ↦ let cs : List Crossing = x ∷ [] in
+        done_went (changed c cs old) r new d (record { on = w.on; last = record { programs = all_turned_last cs old.seats w.last.programs; services = all_emptied_last cs old.services w.last.services } })
+    | inr h ↦ halted c old r new h
+  ]
+
+  out_went : (m : HostMessage) (answer : Result (Unit {0}) CarrierFault) (c : C) (old : WorldState C) (r : Answer) (new : WorldState C) → OutEnds m answer c old r new → Runs old → Went r new
+  out_went m (Ok done) c old r new ends w = strange_went c (crossing.Out m) old r new ends w
+  out_went m (Err f) c old r new ends w = passed f c old r new ends w
+
+  fetch_went : (answer : Result (Option Inbound) CarrierFault) (c : C) (old : WorldState C) (r : Answer) (new : WorldState C) → FetchEnds answer c old r new → Runs old → Went r new
+  fetch_went (Ok None) c old r new ends w = done_went (with_carrier c old) r new ends (carried c old w)
+  fetch_went (Ok (Some i)) c old r new ends w = strange_went c (crossing_of i) old r new ends w
+  fetch_went (Err f) c old r new ends w = passed f c old r new ends w
+
+  refused_went : (f : WorldFault) (old : WorldState C) (r : Answer) (new : WorldState C) → Refuses f old r new → Runs old → Went r new
+  refused_went f old r new is w = unchanged old r new is.1 w
+
+  among_went : (e : Event) (old : WorldState C) (r : Answer) (new : WorldState C) → Runs old → AmongGives calls old e r new → Went r new
+  among_went (Take h) old r new w t = on_either (strange_in old h) (λ s f. fetch_went f.0 f.1 old r new f.3 w) (λ s g. event_went (Take h) old r new w g) t
+  among_went (Out m) old r new w t = on_either (strange_in old m.flow.source) (λ s f. out_went m f.0 f.1 old r new f.3 w) (λ s g. event_went (Out m) old r new w g) t
+  among_went e old r new w t =
+      on_either (is_strange (strange_in old) (asked_at e)) (λ s no. refused_went NoProgram old r new no w) (λ s g. event_went e old r new w g) t
+
   -- ---- any event
 
   -- memory lasts in a world that has not stopped
@@ -240,16 +270,21 @@ module _ {C : Type 0} (calls : Calls C) where
   Goes w = w.stopped ≡ false → Lasts w
 
   -- one event, whether or not it is refused
-  step_goes : (e : Event) (old : WorldState C) (r : Answer) (new : WorldState C) → Unit {0} → Goes old → StepGives calls old e r new → Goes new
-  step_goes e old r new named goes step = by old.stopped refl step where
+  turn_goes : (e : Event) (old : WorldState C) (r : Answer) (new : WorldState C) → Unit {0} → Goes old → TurnGives calls old e r new → Goes new
+  turn_goes e old r new named goes step = by old.stopped refl step where
     by : (b : Bool) → old.stopped ≡ b → MatchBool b (Refuses (Carrier fault.Stopped) old r new) (EventGives calls old e r new) → Goes new
     by true is h = λ on. absurd (false≢true (sym on ∙ ap (λ (w : WorldState C). w.stopped) h.1 ∙ is))
     by false is h = (event_went e old r new (record { on = is; last = goes is }) h).lasting
 
+  step_goes : (e : Event) (old : WorldState C) (r : Answer) (new : WorldState C) → Goes old → StepGives calls old e r new → Goes new
+  step_goes e old r new goes step =
+      on_either old.stopped (λ is h on. absurd (false≢true (sym on ∙ ap (λ (w : WorldState C). w.stopped) h.1 ∙ is)))
+      (λ is h. (among_went e old r new (record { on = is; last = goes is }) h).lasting) step
+
   -- an event of a script, whatever comes of it
   pub event_lasts : (e : WorldEvent) (old : WorldState C) (r : Answer) (new : WorldState C) → Goes old → replay.EventGives calls old e r new → Goes new
-  event_lasts (script.Happen e) old r new goes h = step_goes e old r new tt goes h
-  event_lasts (script.Calm rounds) old r new goes h = calm_keeps calls Goes (λ e. Unit {0}) tt (λ h. tt) (λ h. tt) step_goes rounds old r new goes h
+  event_lasts (script.Happen e) old r new goes h = step_goes e old r new goes h
+  event_lasts (script.Calm rounds) old r new goes h = calm_keeps calls Goes (λ e. Unit {0}) tt (λ h. tt) (λ h. tt) turn_goes rounds old r new goes h
 
   -- ---- a replay
 
@@ -261,8 +296,8 @@ module _ {C : Type 0} (calls : Calls C) where
   went_on : (r : Answer) (new : WorldState C) → stops r ≡ false → Went r new → Runs new
   went_on r new well went = record { on = went.running well; last = went.lasting (went.running well) }
 
-  step_runs : (e : Event) (old : WorldState C) (r : Answer) (new : WorldState C) → stops r ≡ false → Runs old → StepGives calls old e r new → Runs new
-  step_runs e old r new well w h = follows (EventGives calls old e r new) old r new old.stopped refl w h (λ g. went_on r new well (event_went e old r new w g))
+  turn_runs : (e : Event) (old : WorldState C) (r : Answer) (new : WorldState C) → stops r ≡ false → Runs old → TurnGives calls old e r new → Runs new
+  turn_runs e old r new well w h = follows (EventGives calls old e r new) old r new old.stopped refl w h (λ g. went_on r new well (event_went e old r new w g))
 
   -- what goes well to its end goes well in its first part
   then_runs : (Rest : Type 0) (answer : Answer) (mid : WorldState C) (r : Answer) (new : WorldState C) (b : Bool) → stops answer ≡ b → stops r ≡ false → MatchBool b ((r ≡ answer) × (new ≡ mid)) Rest → (stops answer ≡ false → Rest → Runs new) → Runs new
@@ -278,8 +313,8 @@ module _ {C : Type 0} (calls : Calls C) where
   repeats_run e (suc times) old r new well w (answer, mid, step, rest) =
       let more : Bool = nat_lt (length old.kept.book.crossings) (length mid.kept.book.crossings) in
       then_runs (MatchBool more (Repeats calls e times mid r new) (Does mid r new)) answer mid r new (stops answer) refl well rest
-      (λ on g. again_runs (Repeats calls e times mid r new) mid r new more (step_runs e old answer mid on w step) g
-      (λ k. repeats_run e times mid r new well (step_runs e old answer mid on w step) k))
+      (λ on g. again_runs (Repeats calls e times mid r new) mid r new more (turn_runs e old answer mid on w step) g
+      (λ k. repeats_run e times mid r new well (turn_runs e old answer mid on w step) k))
 
   turns_run : (hosts : List Host) (old : WorldState C) (r : Answer) (new : WorldState C) → stops r ≡ false → Runs old → TurnsOf calls hosts old r new → Runs new
   turns_run [] old r new well w h = subst Runs (sym h.1) w
@@ -293,10 +328,11 @@ module _ {C : Type 0} (calls : Calls C) where
   calms_run (suc rounds) old r new well w (first, quiet, step, rest) =
       then_runs _ first quiet r new (stops first) refl well rest
       (λ on g. then_runs (Calms calls rounds g.1 r new) g.0 g.1 r new (stops g.0) refl well g.3
-      (λ more k. calms_run rounds g.1 r new well (turns_run (up_in quiet.seats) quiet g.0 g.1 more (step_runs Quiet old first quiet on w step) g.2) k))
+      (λ more k. calms_run rounds g.1 r new well (turns_run (up_in quiet.seats) quiet g.0 g.1 more (turn_runs Quiet old first quiet on w step) g.2) k))
 
   pub happens_runs : (e : WorldEvent) (old new : WorldState C) (lines : List Shown) → Runs old → Happens calls old e new lines → Runs new
-  happens_runs (script.Happen e) old new lines w h = step_runs e old h.outcome new h.goes_on w h.gives
+  happens_runs (script.Happen e) old new lines w h =
+      follows (AmongGives calls old e h.outcome new) old h.outcome new old.stopped refl w h.gives (λ g. went_on h.outcome new h.goes_on (among_went e old h.outcome new w g))
   happens_runs (script.Calm rounds) old new lines w h = follows (Calms calls rounds old h.outcome new) old h.outcome new old.stopped refl w h.gives (calms_run rounds old h.outcome new h.goes_on w)
 
   pub replay_runs : (events : List WorldEvent) (old new : WorldState C) (lines : List Shown) → Runs old → Replays calls old events new lines → Runs new

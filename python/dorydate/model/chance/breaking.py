@@ -13,8 +13,10 @@ from typing import TypeVar
 from dorydate.model.audit import CONTROL, match
 from dorydate.model.bits import Bits
 from dorydate.model.book import Fate, Life
+from dorydate.model.commands import ALL, control_message, of_counts
 from dorydate.model.crossings import Answer, Answered, Crossing, Passed, Turned
 from dorydate.model.fates import LEAVES, RIGHT_FATES, first_strange, over, together
+from dorydate.model.firsts import RIGHT
 from dorydate.model.log import Book
 from dorydate.model.names import Flow, HostName
 
@@ -131,7 +133,12 @@ def taken_otherwise(chance: Random, book: Book) -> None:
 @way("a message is taken on another flow")
 def taken_elsewhere(chance: Random, book: Book) -> None:
     place, (_, (source, destination, link), text) = a_message(chance, book, "in")
-    others = [(destination, source, link), (source, destination, link ^ 1), (STRANGER, destination, link), (source, HostName(2, 62), link)]
+    others = [
+        (destination, source, link),
+        (source, destination, link ^ 1),
+        (STRANGER, destination, link),
+        (source, HostName(2, 62), link),
+    ]
     book.log[place] = Passed("in", Flow(*chance.choice(others)), text)
 
 
@@ -143,7 +150,11 @@ def answered_early(chance: Random, book: Book) -> None:
 
 @way("an RFNM is about no message")
 def answered_nothing(chance: Random, book: Book) -> None:
-    insert(book, chance.randint(0, len(book.log)), Answered("answer", "rfnm", Flow(STRANGER, HostName(0, 1), chance.randrange(256))))
+    insert(
+        book,
+        chance.randint(0, len(book.log)),
+        Answered("answer", "rfnm", Flow(STRANGER, HostName(0, 1), chance.randrange(256))),
+    )
 
 
 @way("an answer that is about no message")
@@ -280,7 +291,12 @@ def other_socket(chance: Random, book: Book) -> None:
 def other_host(chance: Random, book: Book) -> None:
     life = a_life(chance, book)
     host, imp = life.peer
-    others = [(life.peer, life.host), (HostName(host, imp % 63 + 1), life.peer), (life.host, HostName(3 - host, imp)), (life.peer, life.peer)]
+    others = [
+        (life.peer, life.host),
+        (HostName(host, imp % 63 + 1), life.peer),
+        (life.host, HostName(3 - host, imp)),
+        (life.peer, life.peer),
+    ]
     life.host, life.peer = chance.choice(others)
 
 
@@ -312,6 +328,25 @@ def taken_more(chance: Random, book: Book) -> None:
 def sent_more(chance: Random, book: Book) -> None:
     life = a_life(chance, book, sends)
     life.bits += some_bits(chance)
+
+
+@way("an ALL grants less than was sent")
+def all_less(chance: Random, book: Book) -> None:
+    """A message whose ALLs grant nothing goes out and comes in instead of one."""
+    found = [
+        it
+        for it in book.log
+        if isinstance(it, Passed)
+        and it.flow.link == CONTROL
+        and any(command[0] == ALL for command in RIGHT.commands(it.text))
+    ]
+    old = chance.choice(found)
+    commands = [
+        of_counts(ALL, command[1], 0, 0) if command[0] == ALL else command for command in RIGHT.commands(old.text)
+    ]
+    for place, it in enumerate(book.log):
+        if isinstance(it, Passed) and (it.flow, it.text) == (old.flow, old.text):
+            book.log[place] = Passed(it.kind, it.flow, control_message(commands))
 
 
 @way("the end of handed bits is missing")
@@ -373,7 +408,11 @@ def part_taken(chance: Random, book: Book) -> None:
 
 @way("other data cross")
 def other_data(chance: Random, book: Book) -> None:
-    data = [(at, it) for at, it in enumerate(book.log) if isinstance(it, Passed) and it.flow.link != CONTROL and len(it.text) > 40]
+    data = [
+        (at, it)
+        for at, it in enumerate(book.log)
+        if isinstance(it, Passed) and it.flow.link != CONTROL and len(it.text) > 40
+    ]
     at, it = chance.choice([(at, it) for at, it in data if it.kind == "out"])
     other = it._replace(text=flipped(it.text, len(it.text) - 1))
     book.log[at] = other
@@ -387,7 +426,13 @@ def other_data(chance: Random, book: Book) -> None:
 
 def matched(book: Book) -> list[tuple[Life, int]]:
     """The receiving lives, each with the place of a sending one that it matches."""
-    return [(life, at) for life in book.lives if life.receives() for at, it in enumerate(book.lives) if match(book.log, life, it)]
+    return [
+        (life, at)
+        for life in book.lives
+        if life.receives()
+        for at, it in enumerate(book.lives)
+        if match(book.log, life, it)
+    ]
 
 
 def ended(book: Book) -> list[tuple[Life, int]]:
@@ -397,7 +442,11 @@ def ended(book: Book) -> list[tuple[Life, int]]:
 
 def said_to_be_ended(chance: Random, book: Book, *fates: Fate) -> None:
     """Says of a life with one of these fates, which lost something, that its partner ended it."""
-    lost = [life for life, at in matched(book) if life.fate in fates and (life.bits != book.lives[at].bits or life.bits != book.handed[at])]
+    lost = [
+        life
+        for life, at in matched(book)
+        if life.fate in fates and (life.bits != book.lives[at].bits or life.bits != book.handed[at])
+    ]
     chance.choice(lost).fate = "ended"
 
 

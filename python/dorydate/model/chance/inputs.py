@@ -20,6 +20,7 @@ def some_network(chance: random.Random) -> Topology:
         lines = [*zip(numbers, numbers[1:] + numbers[: chance.choice([0, 1])])]
         lines = lines[: len(lines) - (len(numbers) < 3)] if len(lines) == len(numbers) else lines
     carrier, raw = chance.choice(["plain", "plain", "subnet"]), True
+    foreign: list[tuple[int, list[int]]] | None = None
     match chance.randrange(44):
         case 0:
             carrier = "boxes"
@@ -46,7 +47,9 @@ def some_network(chance: random.Random) -> Topology:
             lines.append(chance.choice([lines[0], lines[0][::-1]]))
         case 12 | 13 if lines:
             lines[-1] += (chance.choice([*lines[-1], 0]),)
-    return Topology(carrier, raw, imps, lines)
+        case 14:
+            foreign = [(numbers[-1], chance.choice([[], [], [0]]))]
+    return Topology(carrier, raw, imps, lines, foreign)
 
 
 def some_text(chance: random.Random) -> str:

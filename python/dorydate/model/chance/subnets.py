@@ -23,7 +23,7 @@ LARGEST_EVENTS = 400
 
 WEIGHTS = {
     "out": 14, "take": 6, "calm": 2, "deliver": 20, "drop": 6, "resend": 3, "route": 2, "giveup": 4, "ask": 5, "abandon": 1, "forget": 1,
-    "garble": 2, "enddown": 2, "endup": 3, "impdown": 0.5, "impup": 2, "hostdown": 1, "hostup": 4, "alive": 3,
+    "garble": 2, "claim": 0.3, "enddown": 2, "endup": 3, "impdown": 0.5, "impup": 2, "hostdown": 1, "hostup": 4, "alive": 3,
 }  # fmt: skip
 WEIGHTS |= {word: 1 for word in OF_RAW if word not in WEIGHTS}
 

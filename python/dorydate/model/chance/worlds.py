@@ -190,7 +190,7 @@ class Script:
         if self.subnet:
             imp, other = self.one(*self.network.imps)[0], self.one(*self.network.imps)[0]
             line = self.chance.randrange(len(self.network.lines) + 1)
-            ways += [("impdown", imp), ("enddown", imp, line), ("forget", imp, other)]
+            ways += [("impdown", imp), ("enddown", imp, line), ("forget", imp, other), ("claim", imp)]
             ways += [(word, at, way, 0) for word in ("drop", "garble") for at, way in self.frames()]
             ways += [("abandon", flow) for flow in flows]
             ways += [("ask", flow) for flow in flows]

@@ -9,7 +9,7 @@ returns c =
       formed = well_formed c.args.names.now c.args.lives.now c.args.handed.now log c.requires.named c.requires.counts.1;
       partners = c.in_ok-partners.ensures log c.requires.named;
       streams = c.unfed-streams.ensures log c.requires.named;
-      grants = c.excess-grants.ensures log c.requires.named;
+      grants = c.in_ok-grants.ensures;
       sent = c.in_ok-sent.ensures;
       closes = c.lost-closes.ensures log c.requires.named;
     }

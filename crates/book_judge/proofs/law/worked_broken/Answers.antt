@@ -16,7 +16,10 @@ returns-clause-whole c = record {
     both_ways = λ x y there other e. absurd (contains_none x there);
   };
   streams = record { source = λ x there r some. absurd (contains_none x there); sent = refl };
-  grants = record { taken = λ x there r. absurd (contains_none x there); sent = λ x y there other m. absurd (contains_none x there) };
+  grants = record {
+    counted = record { taken = λ x there r. absurd (contains_none x there); sent = λ x y there other m. absurd (contains_none x there) };
+    crossed = λ x link there sending named. absurd (contains_none x there);
+  };
   sent = λ x place m there receiving crossed counted. absurd (contains_none x there);
   closes = record { took_sent = λ x y beside there m. absurd beside; took_handed = λ x y text beside there m. absurd beside };
 }

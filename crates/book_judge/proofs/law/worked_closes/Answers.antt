@@ -1,20 +1,15 @@
-use Rattle.book_judge.proofs.Common.{◌≡◌, ◌++◌, ◌∙◌, Bool, true, false, List, [], ◌∷◌, ap, refl, sym, subst, inl, inr, arith, Contains, IsBeside, ClosesWhole, Fate, Life, gave, sent_log, took, contains_none}
-use Rattle.promise.specs.Safe.{Match, receives, sends, AreHanded}
+use Rattle.book_judge.proofs.Common.{◌≡◌, ◌++◌, ◌∙◌, Bool, List, [], ◌∷◌, ap, refl, sym, inl, inr, arith, Contains, IsBeside, ClosesWhole, Fate, Life, gave, sent_log, took, contains_none}
+use Rattle.promise.specs.Safe.{Match, AreHanded}
 use Rattle.net_sim.specs.Worked.{eight, four}
 use Rattle.promise.specs.declared.life.Fate.TheVariants as fate
 use Rattle.book_judge.proofs.Elements.{place_contains}
 use Rattle.book_judge.proofs.Identities.Named.{contains_cases}
+use Rattle.world_keeps_lives.proofs.lemmas.{not_receiving, not_sending}
 use Rattle.book_judge.proofs.law.worked_closes.Goals as goal
 
 -- the one receives, and the other sends: so it is the first that matches the second
 matched : Match sent_log took gave
 matched = record { receiving = refl; sending = refl; peers = (refl, refl); sockets = (refl, refl); asked = refl; answered = refl }
-
-not_receiving : (x : Life) → x ≡ gave → receives x ≡ true → ⊥
-not_receiving x e r = let other : false ≡ true = subst (λ (z : Life). receives z ≡ true) e r in absurd (cc)
-
-not_sending : (y : Life) → y ≡ took → sends y ≡ true → ⊥
-not_sending y e s = let other : false ≡ true = subst (λ (z : Life). sends z ≡ true) e s in absurd (cc)
 
 taker_is : (x y : Life) (f a b : Fate) → IsBeside x f (took ∷ gave ∷ []) (a ∷ b ∷ []) → Match sent_log x y → (x ≡ took) × (f ≡ a)
 taker_is x y f a b beside m = elim beside [

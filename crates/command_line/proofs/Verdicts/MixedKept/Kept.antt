@@ -1,24 +1,13 @@
 -- What `--log` writes is kept, with strangers or without.
-use Rattle.command_line.proofs.Common.{◌≡◌, Bool, List, [], Some, map, sym, subst, inl, inr, ℕ, reverse-reverse, Calls}
-use Rattle.command_line.proofs.Common.{CarrierKind, ClosesWhole, Crossing, Fate, Host, Judged, Life, MixedFields}
-use Rattle.command_line.proofs.Common.{AreSuited, WorldEvent, WorldState, kept, plain_calls, plain_of}
-use Rattle.command_line.proofs.Common.{subnet_calls, subnet_of, world_book}
-use Rattle.std.proofs.Common.{reverse}
-use Rattle.book_judge.proofs.lemmas.{made_twice, made_with, suited_with}
-use Rattle.book_log.specs.Log.{logged_fate}
-use Rattle.interface.specs.Host.{is_host}
+use Rattle.command_line.proofs.Common.{reverse-reverse, Calls, CarrierKind, ClosesWhole, Crossing, Fate, Host, is_host, Life, AreSuited, WorldEvent, WorldState, plain_calls, plain_of, subnet_of, subnet_calls, world_book, made_twice, made_with, suited_with, logged_fate, KeepsAmong, KeepsToward, IsWellFormed, AreUnhanded, strange_in, SafeBook, EachIsWithin, EachWasSent, Logged, LogsAmong, TopologyFields, are_some}
+use Rattle.std.proofs.Common.{◌≡◌, Bool, true, false, List, [], Some, map, sym, subst, ℕ, reverse}
+use Rattle.command_line.specs.Audits.{Judged, kept, IsKeptLog}
+use Rattle.command_line.specs.Events.{Asked, Raw, World}
+use Rattle.command_line.specs.Logs.{LogsFrom, LogsIn, LogsOver}
 use Rattle.mixed_worlds.specs.Book.{beside_among, contacts_among, lives_among}
-use Rattle.mixed_worlds.specs.Laws.{KeepsAmong, KeepsToward}
-use Rattle.net_sim.specs.Audit.{IsWellFormed}
 use Rattle.net_sim.specs.Book.{Kept}
-use Rattle.net_sim.specs.Handed.{AreUnhanded}
-use Rattle.net_sim.specs.MixedWorlds.{strange_in}
-use Rattle.promise.specs.Safe.{SafeBook}
-use Rattle.world_keeps_streams.specs.Sent.{EachWasSent}
 use Rattle.topology.specs.declared.network.CarrierKind.TheVariants as kind
-use Rattle.command_line.specs.Audits.{IsKeptLog}
-use Rattle.command_line.specs.MixedLogs.{LoggedEither, MixedLogsFrom, MixedLogsOver}
-use Rattle.command_line.proofs.Joined.{closes_logged, logged_kept, run_twice, says_logged, suited_logged}
+use Rattle.command_line.proofs.Joined.{closes_logged, raw_kept, run_twice, says_logged, suited_logged, world_kept}
 use Rattle.command_line.proofs.Verdicts.MixedKept.Stamped.{well_formed}
 use Rattle.command_line.proofs.Verdicts.MixedKept.Stay.{strangers_stay}
 use Rattle.command_line.proofs.Verdicts.MixedKept.Toward.{fates_logged, toward_each}
@@ -46,6 +35,7 @@ judged {C} strange hosts w among toward lists =
     (twice (λ (cs : List Crossing). IsWellFormed cs k.book.lives k.handed) log
     (well_formed log k.book.lives k.handed toward.messages lists toward.asked))
     (twice (λ (cs : List Crossing). SafeBook cs some texts) log among.safe)
+    (twice (λ (cs : List Crossing). EachIsWithin cs some) log among.granted)
     (twice (λ (cs : List Crossing). EachWasSent cs some) log among.sent)
     (twice (λ (cs : List Crossing). ClosesWhole cs some texts told) log
     (subst (λ (fs : List Fate). ClosesWhole log some texts fs) same (closes_logged log some texts ends among.whole)))
@@ -59,9 +49,9 @@ judged {C} strange hosts w among toward lists =
 pub one_test : (f g : Host → Bool) → ((h : Host) → f h ≡ g h) → f ≡ g
 one_test f g same = λ i. λ h. same h i
 
-kept_from : {C : Type 0} (calls : Calls C) (strangers : List Host) (opening : C) (events : List WorldEvent)
-    (octets : List ℕ) → MixedLogsFrom calls strangers opening events (Some []) (Some octets) → IsKeptLog octets
-kept_from calls strangers opening events octets h =
+among_kept : {C : Type 0} (calls : Calls C) (strangers : List Host) (opening : C) (events : List WorldEvent)
+    (octets : List ℕ) → LogsAmong calls strangers opening events (Some []) (Some octets) → IsKeptLog octets
+among_kept calls strangers opening events octets h =
     let k : Kept = h.last.kept in
     let same : strange_in h.last ≡ (λ g. is_host strangers g) =
     one_test (strange_in h.last) (λ g. is_host strangers g)
@@ -76,11 +66,23 @@ kept_from calls strangers opening events octets h =
           (judged (strange_in h.last) (calls.seen h.last.carrier).hosts h.last h.among h.toward h.lists));
     }
 
-kept_over : (carrier : CarrierKind) (t : MixedFields) (events : List WorldEvent) (octets : List ℕ)
-    → MixedLogsOver carrier t events (Some []) (Some octets) → IsKeptLog octets
-kept_over kind.Plain t events octets h = kept_from plain_calls t.strangers (plain_of t.network) events octets h
-kept_over kind.Subnet t events octets h = kept_from subnet_calls t.strangers (subnet_of t.network) events octets h
+-- ---- with strangers or without
 
-pub either_kept : (octets : List ℕ) → LoggedEither (Some []) (Some octets) → IsKeptLog octets
-either_kept octets (inl h) = logged_kept octets h
-either_kept octets (inr h) = kept_over h.network.network.carrier h.network h.events octets h.logged
+kept_in : {C : Type 0} (among : Bool) (calls : Calls C) (strangers : List Host) (opening : C) (events : List WorldEvent)
+    (octets : List ℕ) → LogsIn among calls strangers opening events (Some []) (Some octets) → IsKeptLog octets
+kept_in true calls strangers opening events octets h = among_kept calls strangers opening events octets h
+kept_in false calls strangers opening events octets h = world_kept calls opening events octets h
+
+kept_from : {C : Type 0} (calls : Calls C) (strangers : List Host) (opening : C) (events : Asked) (octets : List ℕ)
+    → LogsFrom calls strangers opening events (Some []) (Some octets) → IsKeptLog octets
+kept_from calls strangers opening (Raw events) octets h = raw_kept calls opening events octets h
+kept_from calls strangers opening (World events) octets h =
+    kept_in (are_some strangers) calls strangers opening events octets h
+
+kept_over : (carrier : CarrierKind) (t : TopologyFields) (events : Asked) (octets : List ℕ)
+    → LogsOver carrier t events (Some []) (Some octets) → IsKeptLog octets
+kept_over kind.Plain t events octets h = kept_from plain_calls t.strangers (plain_of t) events octets h
+kept_over kind.Subnet t events octets h = kept_from subnet_calls t.strangers (subnet_of t) events octets h
+
+pub logged_kept : (octets : List ℕ) → Logged (Some []) (Some octets) → IsKeptLog octets
+logged_kept octets h = kept_over h.network.carrier h.network h.events octets h.logged

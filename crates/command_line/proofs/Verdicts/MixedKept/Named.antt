@@ -1,18 +1,13 @@
 -- The strangers of a log are hosts that exist, in order.
-use Rattle.command_line.proofs.Common.{◌≡◌, Bool, true, false, List, [], ◌∷◌, None, refl, sym, subst, ◌∙◌, Host, All}
-use Rattle.command_line.proofs.Common.{Calls, WorldEvent, shown}
-use Rattle.std.proofs.Common.{filter}
+use Rattle.command_line.proofs.Common.{All, Calls, WorldEvent, shown, IsLawfulAmong, absent_in, opening_mixed, strange_in, WorldState, ArePicked, Replays}
+use Rattle.std.proofs.Common.{◌≡◌, Bool, true, false, List, [], ◌∷◌, None, refl, sym, subst, ◌∙◌, filter}
+use Rattle.interface.specs.Host.{Host, InOrder, IsAddress, is_host, same_host}
 use Rattle.std.proofs.lemmas.Bool.{le-leb, or_left, or_right}
 use Rattle.std.proofs.lemmas.List.Elements.{All-cons, All-nil}
 use Rattle.interface.proofs.lemmas.{host_before_trans, same_host-refl}
-use Rattle.interface.specs.Host.{InOrder, IsAddress, is_host, same_host}
 use Rattle.book_log.specs.Log.{AreStrangers}
-use Rattle.net_sim.specs.MixedWorlds.{IsLawfulAmong, absent_in, opening_mixed, strange_in}
-use Rattle.net_sim.specs.World.{WorldState}
 use Rattle.script.specs.Spelling.{IsHost}
-use Rattle.world_replay.specs.Kinds.{ReplaysBy, mixed_kind}
 use Rattle.world_replay.specs.Output.{Shown}
-use Rattle.command_line.specs.MixedLogs.{ArePicked}
 use Rattle.command_line.proofs.Verdicts.MixedKept.Stay.{strangers_stay}
 
 -- ---- in order
@@ -63,7 +58,7 @@ all_hosts named addresses = each_named named (λ h there. address_host h (addres
 pub are_strangers : {C : Type 0} (calls : Calls C) (strangers : List Host) (carrier : C) (events : List WorldEvent)
     (last : WorldState C) (shows : List Shown) → absent_in (calls.seen carrier).hosts strangers ≡ None
     → ArePicked (calls.seen carrier).hosts strangers → InOrder (calls.seen carrier).hosts
-    → ReplaysBy (mixed_kind (shown calls)) (opening_mixed (shown calls) carrier strangers) events last shows
+    → Replays (shown calls) (opening_mixed (shown calls) carrier strangers) events last shows
     → IsLawfulAmong (strange_in last) calls.seen (calls.seen last.carrier).hosts last
     → AreStrangers strangers
 are_strangers calls strangers carrier events last shows there picked order replayed lawful = record {

@@ -1,22 +1,18 @@
 -- A life whose two requests crossed has the stamps of messages, and each life has a list of what was handed over.
-use Rattle.command_line.proofs.Common.{◌≡◌, ℕ, ◌==◌, ◌++◌, Bool, true, false, List, [], ◌∷◌, refl, sym, ap, subst, ◌∙◌}
-use Rattle.command_line.proofs.Common.{arith, inl, inr, Host, Crossing, Life, SafeMessages, length-append}
-use Rattle.std.proofs.Common.{suc, ◌+◌, ◌-◌, drop, length}
+use Rattle.command_line.proofs.Common.{Host, Crossing, Life, length-append, HostMessage, AreUnhanded, Contains}
+use Rattle.std.proofs.Common.{◌≡◌, ℕ, ◌==◌, ◌++◌, Bool, true, false, List, [], ◌∷◌, refl, sym, ap, subst, ◌∙◌, arith, inl, inr, suc, ◌+◌, ◌-◌, drop, length}
+use Rattle.interface.specs.Messages.{SafeMessages, taken_in, went_out}
 use Rattle.std.proofs.Math.Seq.{drop-append-add}
 use Rattle.std.proofs.lemmas.Bool.{eqb-true, false≢true}
 use Rattle.std.specs.Prelude.{IsSome}
 use Rattle.interface.proofs.lemmas.{same_flow-refl, same_flow-true}
 use Rattle.interface.specs.Mailboxes.{same_flow}
-use Rattle.interface.specs.Messages.{taken_in, went_out}
 use Rattle.interface.specs.declared.address.Flow.{Flow}
 use Rattle.interface.specs.declared.crossing.Crossing.TheVariants as crossing
-use Rattle.interface.specs.declared.message.HostMessage.{HostMessage}
 use Rattle.mixed_worlds.specs.Toward.{HasAsked}
 use Rattle.net_sim.specs.Audit.{IsStamped, IsWellFormed, Passes}
-use Rattle.net_sim.specs.Handed.{AreUnhanded}
 use Rattle.promise.specs.Formed.{CrossedAt, coming, going, named_at, named_of, text_of}
 use Rattle.promise.specs.Safe.{before, control_flow, last_out}
-use Rattle.std.specs.List.{Contains}
 
 -- ---- what a request is in
 

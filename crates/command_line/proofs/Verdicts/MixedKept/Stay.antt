@@ -1,41 +1,13 @@
 -- The strangers of a world are those that were named, whatever happens in it.
-use Rattle.command_line.proofs.Common.{◌≡◌, Bool, true, false, List, [], ◌∷◌, None, Some, Result, refl, sym, ap, ◌∙◌}
-use Rattle.command_line.proofs.Common.{inl, inr, Calls, Host, WorldState, WorldEvent, shown}
-use Rattle.std.proofs.Common.{◌&&◌, filter}
+use Rattle.command_line.proofs.Common.{Calls, WorldState, WorldEvent, shown, absent_in, opening_mixed, strange_in, Replays}
+use Rattle.std.proofs.Common.{◌≡◌, Bool, true, false, List, [], ◌∷◌, None, Some, refl, sym, ap, ◌∙◌, inl, inr, ◌&&◌, filter}
+use Rattle.interface.specs.Host.{Host, is_host, same_host}
 use Rattle.std.proofs.lemmas.Bool.{false≢true, or_cases}
 use Rattle.std.proofs.lemmas.Map.Views.{any-filter_same}
 use Rattle.interface.proofs.lemmas.{and_true, both_ways, same_host-true}
-use Rattle.interface.specs.Host.{is_host, same_host}
-use Rattle.net_sim.specs.MixedWorlds.{absent_in, opening_mixed, strange_in}
-use Rattle.net_sim.proofs.lemmas.{calm_same, mixed_same}
-use Rattle.net_sim.specs.declared.event.WorldFault.{WorldFault}
-use Rattle.world_replay.specs.Kinds.{EventGivesAmong, ReplaysBy, RunsOutBy, mixed_kind}
+use Rattle.world_replay.proofs.lemmas.{replay_same}
 use Rattle.world_replay.specs.Output.{Shown}
 use Rattle.world_script.specs.declared.event.WorldEvent.TheVariants as mixed
-
--- ---- no event changes them
-
-module _ {C : Type 0} (calls : Calls C) where
-  abbrev Answer : Type 0
-  Answer = Result (Unit {0}) WorldFault
-
-  one : (e : WorldEvent) (old : WorldState C) (r : Answer) (new : WorldState C) → EventGivesAmong calls old e r new
-      → new.strangers ≡ old.strangers
-  one (mixed.Happen e) old r new h = mixed_same calls e old r new h
-  one (mixed.Calm rounds) old r new h = calm_same calls rounds old r new h
-
-  -- nor do several
-  pub all_stay : (events : List WorldEvent) (old new : WorldState C) (shows : List Shown)
-      → ReplaysBy (mixed_kind calls) old events new shows → new.strangers ≡ old.strangers
-  all_stay [] old new shows h = ap (λ (s : WorldState C). s.strangers) h.0
-  all_stay (e ∷ events) old new shows (mid, first, rest, happens, turn, lines) =
-      all_stay events mid new rest turn ∙ one e old happens.outcome mid happens.gives
-
-  -- nor do those before memory ran out
-  pub stay_in_part : (events : List WorldEvent) (old new : WorldState C) (shows : List Shown)
-      → RunsOutBy (mixed_kind calls) old events new shows → new.strangers ≡ old.strangers
-  stay_in_part events old new shows h =
-      one h.last h.mid h.goes.outcome new h.goes.gives ∙ all_stay h.done old h.mid h.front h.before
 
 -- ---- hosts of the network that are named are its strangers
 
@@ -72,12 +44,12 @@ named_is hosts named h none = both_ways (is_host named h) (is_host (filter (λ g
 -- so after any replay a host is a stranger exactly where it is named
 pub strangers_stay : {C : Type 0} (calls : Calls C) (opening : C) (named : List Host) (events : List WorldEvent)
     (last : WorldState C) (shows : List Shown) → absent_in (calls.seen opening).hosts named ≡ None
-    → ReplaysBy (mixed_kind (shown calls)) (opening_mixed (shown calls) opening named) events last shows
+    → Replays (shown calls) (opening_mixed (shown calls) opening named) events last shows
     → (h : Host) → is_host named h ≡ strange_in last h
 strangers_stay calls opening named events last shows none replayed h =
     named_is (calls.seen opening).hosts named h none
     ∙ ap (λ (hosts : List Host). is_host hosts h)
-    (sym (all_stay (shown calls) events (opening_mixed (shown calls) opening named) last shows replayed))
+    (sym (replay_same (shown calls) events (opening_mixed (shown calls) opening named) last shows replayed))
 
 -- whatever is named: these are the hosts of the network that are named
 pub picked_stay : {C : Type 0} (calls : Calls C) (opening : C) (named : List Host) (last : WorldState C)

@@ -1,12 +1,6 @@
 -- What a world with strangers keeps is what may be asked of the lives in its log toward these.
-use Rattle.command_line.proofs.Common.{◌≡◌, Bool, true, false, List, [], ◌∷◌, map, refl, ap, inl, inr, Host, Life, Fate}
-use Rattle.command_line.proofs.Common.{Contains}
-use Rattle.std.proofs.Common.{length}
-use Rattle.book_judge.specs.Toward.{AreToward}
-use Rattle.book_log.specs.Log.{logged_fate}
-use Rattle.interface.proofs.lemmas.{contains_head, contains_tail}
-use Rattle.mixed_worlds.specs.Book.{beside_among, is_among}
-use Rattle.promise.specs.Fates.{IsBeside}
+use Rattle.command_line.proofs.Common.{Host, Life, Fate, Contains, AreToward, logged_fate, contains_head, contains_tail, beside_among, is_among, IsBeside}
+use Rattle.std.proofs.Common.{◌≡◌, Bool, true, false, List, [], ◌∷◌, map, refl, ap, inl, inr, length}
 use Rattle.promise.specs.Safe.{IsGranted, IsPrefix, receives, sends}
 
 pub toward_each : (strange : Host → Bool) (lives : List Life) (handed : List (List Bool))

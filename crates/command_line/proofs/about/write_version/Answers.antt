@@ -1,4 +1,5 @@
-use Rattle.command_line.proofs.Common.{ℕ, List, ◌++◌, Option, codes, subst, Appends}
+use Rattle.std.proofs.Common.{ℕ, List, ◌++◌, Option, codes, subst}
+use Rattle.std.specs.Io.KnownBytes.{Appends}
 use Rattle.command_line.specs.declared.about.TheConstants.{VERSION}
 use Rattle.command_line.proofs.Verdicts.Judged.{joins}
 use Rattle.command_line.proofs.about.write_version.Goals as goal

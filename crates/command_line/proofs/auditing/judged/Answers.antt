@@ -1,7 +1,5 @@
-use Rattle.command_line.proofs.Common.{ap, sym, ◌∙◌, List, Host, Life}
-use Rattle.std.proofs.Common.{map}
-use Rattle.interface.specs.Host.{is_host}
-use Rattle.mixed_worlds.specs.Book.{is_among}
+use Rattle.command_line.proofs.Common.{Host, is_host, Life, is_among}
+use Rattle.std.proofs.Common.{ap, sym, ◌∙◌, List, map}
 use Rattle.command_line.specs.Audits.{Layout, layout_of}
 use Rattle.command_line.proofs.Verdicts.Judged.{says_of}
 use Rattle.command_line.proofs.auditing.judged.Goals as goal

@@ -1,7 +1,8 @@
-use Rattle.command_line.proofs.Common.{◌≡◌, ℕ, List, Err, ap, rules, subst, Appends, IsLog, IsBookFault, Verdict}
+use Rattle.command_line.proofs.Common.{◌≡◌, ℕ, List, Err, ap, rules, subst, Appends, Verdict}
+use Rattle.book_log.specs.Log.{IsLog}
+use Rattle.command_line.specs.Audits.{IsBookFault, Layout, found_text}
 use Rattle.command_line.proofs.Verdicts.MixedKept.Said.{ends_faulty, ends_kept}
 use Rattle.command_line.proofs.Verdicts.Judged.{audited, audits, known_audited, some_log, unjudged, unlogged, unread, unwritten}
-use Rattle.command_line.specs.Audits.{Layout, found_text}
 use Rattle.command_line.specs.declared.auditing.AuditFault.TheVariants as fault
 use Rattle.command_line.proofs.auditing.run_audit.Goals as goal
 

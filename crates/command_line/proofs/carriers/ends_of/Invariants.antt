@@ -1,4 +1,4 @@
-use Rattle.command_line.proofs.Common.{◌≡◌, take}
+use Rattle.std.proofs.Common.{◌≡◌, take}
 use Rattle.command_line.specs.Carriers.{ends_of}
 use Rattle.command_line.proofs.carriers.ends_of.Given as goal
 

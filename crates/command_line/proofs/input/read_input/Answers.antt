@@ -10,4 +10,4 @@ returns-in-Err-clause-fault c =
 pub returns-in-Err-read_events-clause-fault : goal.returns-in-Err-read_events-clause-fault
 returns-in-Err-read_events-clause-fault c =
     script_fault c.args.octets.now c.in-Some.topology.now c.in-Some.script.now c.in-Ok.network c.in-Err-read_events.fault
-    c.requires c.in-Some.ensures.parted c.in-Ok.ensures.found (rw c.is_raw.ensures at c.in-Err-read_events.ensures)
+    c.requires c.in-Some.ensures.parted c.in-Ok.ensures.found c.in-Err-read_events.ensures

@@ -1,9 +1,5 @@
+use Rattle.command_line.proofs.Common.{AreSuited, UnsuitedAt, AreMade, UnmadeAt, Host, is_host, Crossing, IsWellFormed}
 use Rattle.std.proofs.Common.{Bool, List, MatchOption, ap, reverse, subst, ◌≡◌, ◌∙◌}
-use Rattle.book_judge.specs.Fates.{AreSuited, UnsuitedAt}
-use Rattle.book_judge.specs.Lives.{AreMade, UnmadeAt}
-use Rattle.interface.specs.Host.{Host, is_host}
-use Rattle.interface.specs.declared.crossing.Crossing.{Crossing}
-use Rattle.net_sim.specs.Audit.{IsWellFormed}
 use Rattle.net_sim.specs.Findings.{ShowsMalformed}
 use Rattle.command_line.specs.Audits.{AreParts, kept_by}
 use Rattle.command_line.proofs.Verdicts.Among.{counted_beside, counted_lives}

@@ -1,4 +1,4 @@
-use Rattle.command_line.proofs.Common.{◌≡◌, ◌++◌}
+use Rattle.std.proofs.Common.{◌≡◌, ◌++◌}
 use Rattle.command_line.specs.Audits.{kept_by}
 use Rattle.command_line.proofs.judging.keep_counted.Given as goal
 

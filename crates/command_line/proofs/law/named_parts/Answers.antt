@@ -1,7 +1,6 @@
+use Rattle.command_line.proofs.Common.{is_host, fates_of, lives_of}
 use Rattle.std.specs.Prelude.{reverse}
-use Rattle.interface.specs.Host.{is_host}
 use Rattle.command_line.specs.Audits.{program_lives}
-use Rattle.book_log.specs.Log.{fates_of, lives_of}
 use Rattle.book_judge.proofs.lemmas.{made_formed}
 use Rattle.command_line.proofs.Verdicts.Named.{closes_named, fates_named, formed_named, grants_named, lives_named}
 use Rattle.command_line.proofs.Verdicts.Named.{messages_named, only_kept, partners_named, run_named, safe_from_kept}

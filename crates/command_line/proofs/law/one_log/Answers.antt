@@ -1,5 +1,5 @@
-use Rattle.command_line.proofs.Replayed.Determined.{either_log}
+use Rattle.command_line.proofs.Joins.{one_log}
 use Rattle.command_line.proofs.law.one_log.Goals as goal
 
 pub returns : goal.returns
-returns c = either_log
+returns c = one_log

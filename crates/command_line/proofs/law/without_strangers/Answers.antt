@@ -1,6 +1,5 @@
+use Rattle.command_line.proofs.Common.{fates_of, lives_of, is_host}
 use Rattle.std.proofs.Common.{[]}
-use Rattle.book_log.specs.Log.{fates_of, lives_of}
-use Rattle.interface.specs.Host.{is_host}
 use Rattle.command_line.proofs.Verdicts.Among.{all_beside, all_lives, all_places, none_toward}
 use Rattle.command_line.proofs.Verdicts.Named.{toward_none}
 use Rattle.command_line.proofs.law.without_strangers.Goals as goal

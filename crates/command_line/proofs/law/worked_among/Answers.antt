@@ -1,4 +1,4 @@
-use Rattle.command_line.proofs.Replayed.MixedPrinted.{never_out, no_notice, not_printed, nothing_in, of_stranger, untold}
+use Rattle.command_line.proofs.Replayed.AmongPrinted.{never_out, no_notice, not_printed, nothing_in, of_stranger, untold}
 use Rattle.command_line.proofs.law.worked_among.Goals as goal
 
 pub returns : goal.returns

@@ -1,17 +1,9 @@
-use Rattle.std.proofs.Common.{◌≡◌, ℕ, ◌+◌, ◌-◌, ◌≤◌, List, inl, inr, ap, arith, drop, length, reverse, subst, sym}
-use Rattle.std.proofs.Common.{take, ◌∙◌}
+use Rattle.command_line.proofs.Common.{AreSuited, AreMade, IsSomeRun, AreToward, Host, is_host, SafeMessages, Crossing, Life}
+use Rattle.std.proofs.Common.{◌≡◌, ℕ, ◌+◌, ◌-◌, ◌≤◌, List, inl, inr, ap, arith, drop, length, reverse, subst, sym, take, ◌∙◌}
 use Rattle.std.proofs.lemmas.List.{length-reverse, take_all}
-use Rattle.book_judge.specs.Fates.{AreSuited}
-use Rattle.book_judge.specs.Lives.{AreMade}
-use Rattle.book_judge.specs.Runs.{IsSomeRun}
-use Rattle.book_judge.specs.Toward.{AreToward}
 use Rattle.book_log.specs.Log.{Book, fates_of, lives_of}
-use Rattle.interface.specs.Host.{Host, is_host}
-use Rattle.interface.specs.Messages.{SafeMessages}
-use Rattle.interface.specs.declared.crossing.Crossing.{Crossing}
 use Rattle.net_sim.specs.Findings.{AreStamped, EndsAt}
 use Rattle.promise.specs.Safe.{before}
-use Rattle.promise.specs.declared.life.Life.{Life}
 use Rattle.command_line.specs.Audits.{program_fates, program_lives}
 use Rattle.command_line.proofs.law.worked_first.Goals as goal
 

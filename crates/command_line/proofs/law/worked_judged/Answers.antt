@@ -1,6 +1,5 @@
-use Rattle.command_line.proofs.Common.{◌<◌, ◌+◌, arith}
+use Rattle.std.proofs.Common.{◌<◌, ◌+◌, arith, length}
 use Rattle.command_line.specs.Audits.{program_lives}
-use Rattle.std.proofs.Common.{length}
 use Rattle.command_line.proofs.law.worked_judged.Goals as goal
 
 pub returns-clause-one : goal.returns-clause-one

@@ -1,6 +1,5 @@
-use Rattle.command_line.proofs.Common.{◌≡◌, map, take}
-use Rattle.interface.specs.Host.{is_host}
-use Rattle.mixed_worlds.specs.Book.{is_among}
+use Rattle.command_line.proofs.Common.{is_host, is_among}
+use Rattle.std.proofs.Common.{◌≡◌, map, take}
 use Rattle.command_line.proofs.layout.lives_among.Given as goal
 
 abbrev pub invariant-loop-life : goal.invariant-loop-life

@@ -1,5 +1,4 @@
-use Rattle.command_line.proofs.Common.{◌≡◌, ◌+◌}
-use Rattle.std.proofs.Common.{drop}
+use Rattle.std.proofs.Common.{◌≡◌, ◌+◌, drop}
 use Rattle.command_line.specs.Audits.{place_in}
 use Rattle.command_line.proofs.layout.place_in.Given as goal
 

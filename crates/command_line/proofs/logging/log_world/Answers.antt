@@ -1,6 +1,5 @@
-use Rattle.command_line.proofs.Common.{Calls, Sizes, None, subst, world_keeps, AreSuited}
+use Rattle.command_line.proofs.Common.{Calls, Sizes, None, subst, world_keeps, AreSuited, suited_with}
 use Rattle.net_sim.specs.Book.{Kept}
-use Rattle.book_judge.proofs.lemmas.{suited_with}
 use Rattle.command_line.proofs.Logs.{logs_world}
 use Rattle.command_line.proofs.logging.log_world.Goals as goal
 

@@ -1,8 +1,6 @@
-use Rattle.command_line.proofs.Common.{◌≡◌, Err, List, ℕ, MatchResult, OnOk, ap, rules, subst, on_ok}
-use Rattle.command_line.specs.Either.{IsEitherFault, IsEitherInput}
-use Rattle.command_line.specs.MixedLogs.{LogsEither}
-use Rattle.command_line.proofs.Replayed.MixedLogs.{any_logged}
-use Rattle.command_line.proofs.Replayed.Either.{at_known, unread_either}
+use Rattle.command_line.proofs.Common.{◌≡◌, Err, List, ℕ, MatchResult, OnOk, ap, rules, subst, on_ok, IsScriptFault, IsSomeInput, LogsInput}
+use Rattle.command_line.proofs.Replayed.AmongLogs.{any_logged}
+use Rattle.command_line.proofs.Replayed.Known.{at_known, read_as, unread}
 use Rattle.command_line.proofs.logging.run_log.Goals as goal
 
 pub returns-clause-ran : goal.returns-clause-ran
@@ -12,22 +10,22 @@ returns-clause-ran g c = on_ok c.follow.result
 
 pub returns-clause-logged : goal.returns-clause-logged
 returns-clause-logged g c = on_ok c.follow.result
-    (at_known (λ k. LogsEither k (g.W.Output.contents c.args.writer.now) (g.W.Output.contents c.follow.new.writer))
+    (at_known (λ k. LogsInput k (g.W.Output.contents c.args.writer.now) (g.W.Output.contents c.follow.new.writer))
     (g.R.Source.remaining c.args.reader.now) c.in_ok-octets.octets.items c.in_ok-octets.ensures.whole)
-    (subst (λ (o : List ℕ). OnOk c.follow.result (LogsEither o (g.W.Output.contents c.args.writer.now) (g.W.Output.contents c.follow.new.writer)))
+    (subst (λ (o : List ℕ). OnOk c.follow.result (LogsInput o (g.W.Output.contents c.args.writer.now) (g.W.Output.contents c.follow.new.writer)))
     c.deref.ensures.value c.follow.ensures.logged)
 
 pub returns-clause-read : goal.returns-clause-read
 returns-clause-read g c = λ whole.
-    at_known (λ k. MatchResult c.follow.result (λ done. IsEitherInput k) (IsEitherFault k))
+    at_known (λ k. MatchResult c.follow.result (λ done. IsSomeInput k) (IsScriptFault k))
     (g.R.Source.remaining c.args.reader.now) c.in_ok-octets.octets.items c.in_ok-octets.ensures.whole
-    (subst (λ (o : List ℕ). MatchResult c.follow.result (λ done. IsEitherInput o) (IsEitherFault o))
-    c.deref.ensures.value c.follow.ensures.read)
+    (subst (λ (o : List ℕ). MatchResult c.follow.result (λ done. IsSomeInput o) (IsScriptFault o))
+    c.deref.ensures.value (read_as c.deref.result.now c.follow.result c.follow.ensures.read c.follow.ensures.fault))
 
 pub returns-in_err-octets-clause-read : goal.returns-in_err-octets-clause-read
 returns-in_err-octets-clause-read g c = λ whole.
     let same : c.from_residual.result ≡ Err c.in_err-octets.field-0.0 = search rules in
-    unread_either (g.R.Source.remaining c.args.reader.now) c.from_residual.result c.in_err-octets.field-0.0
+    unread (g.R.Source.remaining c.args.reader.now) c.from_residual.result c.in_err-octets.field-0.0
     (g.R.Source.failed c.read_octets.new.reader) same
     c.in_err-octets.ensures.fault (λ e. c.in_err-octets.ensures.too_long (ap Err e))
     (λ e. c.in_err-octets.ensures.failed.0 (ap Err e)) whole

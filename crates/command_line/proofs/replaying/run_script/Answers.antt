@@ -1,50 +1,49 @@
-use Rattle.command_line.proofs.Common.{◌≡◌, Err, List, ℕ, MatchResult, OnOk, ap, rules, subst, on_ok, IsEitherFault}
-use Rattle.command_line.proofs.Common.{IsEitherInput, ReplaysEither, StopsEither}
+use Rattle.command_line.proofs.Common.{◌≡◌, Err, List, ℕ, MatchResult, OnOk, ap, rules, subst, on_ok, IsScriptFault, IsSomeInput, ReplaysInput, StopsInput}
 use Rattle.command_line.specs.Stopping.{NothingOr}
-use Rattle.command_line.proofs.Replayed.Either.{at_known, part_either, ran_either, unread_either}
+use Rattle.command_line.proofs.Replayed.Known.{at_known, ran, ran_in_part, read_as, unread}
 use Rattle.command_line.proofs.replaying.run_script.Goals as goal
 
 pub returns-clause-ran : goal.returns-clause-ran
 returns-clause-ran g c = λ off.
     on_ok c.follow.result
-    (ran_either c.args.book c.args.detail c.deref.result.now (g.W.Output.contents c.args.writer.now)
+    (ran c.args.book c.args.detail c.deref.result.now (g.W.Output.contents c.args.writer.now)
     (g.W.Output.contents c.follow.new.writer)) (c.follow.ensures.replayed off)
 
 pub returns-clause-replayed : goal.returns-clause-replayed
 returns-clause-replayed g c = λ off.
     on_ok c.follow.result
     (at_known
-    (λ k. ReplaysEither c.args.book c.args.detail k (g.W.Output.contents c.args.writer.now)
+    (λ k. ReplaysInput c.args.book c.args.detail k (g.W.Output.contents c.args.writer.now)
     (g.W.Output.contents c.follow.new.writer)) (g.R.Source.remaining c.args.reader.now) c.in_ok-octets.octets.items
     c.in_ok-octets.ensures.whole)
     (subst (λ (o : List ℕ). OnOk c.follow.result
-    (ReplaysEither c.args.book c.args.detail o (g.W.Output.contents c.args.writer.now)
+    (ReplaysInput c.args.book c.args.detail o (g.W.Output.contents c.args.writer.now)
     (g.W.Output.contents c.follow.new.writer))) c.deref.ensures.value (c.follow.ensures.replayed off))
 
 pub returns-clause-read : goal.returns-clause-read
 returns-clause-read g c = λ whole.
-    at_known (λ k. MatchResult c.follow.result (λ done. IsEitherInput k) (IsEitherFault k))
+    at_known (λ k. MatchResult c.follow.result (λ done. IsSomeInput k) (IsScriptFault k))
     (g.R.Source.remaining c.args.reader.now) c.in_ok-octets.octets.items c.in_ok-octets.ensures.whole
-    (subst (λ (o : List ℕ). MatchResult c.follow.result (λ done. IsEitherInput o) (IsEitherFault o))
-    c.deref.ensures.value c.follow.ensures.read)
+    (subst (λ (o : List ℕ). MatchResult c.follow.result (λ done. IsSomeInput o) (IsScriptFault o))
+    c.deref.ensures.value (read_as c.deref.result.now c.follow.result c.follow.ensures.read c.follow.ensures.fault))
 
 pub returns-clause-ran_in_part : goal.returns-clause-ran_in_part
 returns-clause-ran_in_part g c = λ e.
-    part_either c.args.detail c.deref.result.now (g.W.Output.contents c.args.writer.now)
+    ran_in_part c.args.detail c.deref.result.now (g.W.Output.contents c.args.writer.now)
     (g.W.Output.contents c.follow.new.writer) (c.follow.ensures.stopped e)
 
 pub returns-clause-first_part : goal.returns-clause-first_part
 returns-clause-first_part g c = λ e.
-    at_known (λ k. NothingOr (StopsEither c.args.detail k) (g.W.Output.contents c.args.writer.now)
+    at_known (λ k. NothingOr (StopsInput c.args.detail k) (g.W.Output.contents c.args.writer.now)
     (g.W.Output.contents c.follow.new.writer)) (g.R.Source.remaining c.args.reader.now) c.in_ok-octets.octets.items
     c.in_ok-octets.ensures.whole
-    (subst (λ (o : List ℕ). NothingOr (StopsEither c.args.detail o) (g.W.Output.contents c.args.writer.now)
+    (subst (λ (o : List ℕ). NothingOr (StopsInput c.args.detail o) (g.W.Output.contents c.args.writer.now)
     (g.W.Output.contents c.follow.new.writer)) c.deref.ensures.value (c.follow.ensures.stopped e))
 
 pub returns-in_err-octets-clause-read : goal.returns-in_err-octets-clause-read
 returns-in_err-octets-clause-read g c = λ whole.
     let same : c.from_residual.result ≡ Err c.in_err-octets.field-0.0 = search rules in
-    unread_either (g.R.Source.remaining c.args.reader.now) c.from_residual.result c.in_err-octets.field-0.0
+    unread (g.R.Source.remaining c.args.reader.now) c.from_residual.result c.in_err-octets.field-0.0
     (g.R.Source.failed c.read_octets.new.reader) same
     c.in_err-octets.ensures.fault (λ e. c.in_err-octets.ensures.too_long (ap Err e))
     (λ e. c.in_err-octets.ensures.failed.0 (ap Err e)) whole

@@ -1,6 +1,5 @@
-use Rattle.command_line.proofs.Common.{◌++◌, word_text}
-use Rattle.command_line.specs.Audits.{fates_text, found_text, lives_text, malformed_text, parts_text, run_text}
-use Rattle.command_line.specs.Audits.{toward_text}
+use Rattle.std.proofs.Common.{◌++◌}
+use Rattle.command_line.specs.Audits.{word_text, fates_text, found_text, lives_text, malformed_text, parts_text, run_text, toward_text}
 use Rattle.command_line.proofs.Verdicts.Judged.{joins, stays, whether_ok}
 use Rattle.command_line.proofs.verdict.write_found.Goals as goal
 

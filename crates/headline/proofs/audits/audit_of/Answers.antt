@@ -1,6 +1,6 @@
 use Rattle.std.proofs.Common.{◌≡◌, Bool, List, reverse, ap, sym, subst, ◌∙◌}
 use Rattle.std.proofs.lemmas.List.{reverse-reverse}
-use Rattle.interface.specs.Host.{Host}
+use Rattle.interface.specs.Calls.{Seen}
 use Rattle.interface.specs.declared.crossing.Crossing.{Crossing}
 use Rattle.net_sim.specs.Audit.{Says}
 use Rattle.net_sim.specs.Book.{Kept}
@@ -17,9 +17,10 @@ returns g c =
     ap (λ (xs : List Crossing). reverse xs) (c.crossings.ensures ∙ ap (λ (x : Kept). reverse x.book.crossings) c.book_of-book.ensures.value) ∙ reverse-reverse k.book.crossings in
     let lives : c.lives.result.now ≡ k.book.lives = c.lives.ensures ∙ ap (λ (x : Kept). x.book.lives) c.book_of-book.ensures.value in
     let handed : c.handed.result.now ≡ k.handed = c.handed.ensures.value in
-    let hosts : List Host = (g.C.Carrier.calls.seen c.args.world.now.carrier).hosts in
+    let seen : Seen = g.C.Carrier.calls.seen c.args.world.now.carrier in
     let says : Says said.Kept k.book.crossings k.book.lives k.handed =
-    kept_promise hosts k (subst (KeepsPromise hosts) c.book_of-book.ensures.value c.book_of-book.ensures.promise) in
+    kept_promise seen.hosts seen.log c.args.world.now.stopped k
+    (subst (KeepsPromise seen.hosts seen.log c.args.world.now.stopped) c.book_of-book.ensures.value c.book_of-book.ensures.promise) in
     let with_handed = subst (λ (h : List (List Bool)). Says said.Kept k.book.crossings k.book.lives h) (sym handed) says in
     let with_lives = subst (λ (xs : List Life). Says said.Kept k.book.crossings xs c.handed.result.now) (sym lives) with_handed in
     (c.audit.ensures said.Kept).1 (subst (λ (l : List Crossing). Says said.Kept l c.lives.result.now c.handed.result.now) (sym log) with_lives)

@@ -1,4 +1,4 @@
-use Rattle.imp_node.proofs.HeldByCalls.{from_host_leaves, from_line_leaves, to_host_leaves, host_down_leaves, resend_leaves, route_leaves, end_down_leaves, end_up_leaves, give_up_leaves, ask_leaves, forget_leaves, abandon_leaves, host_up_leaves, start_packets}
+use Rattle.imp_node.proofs.HeldByCalls.{from_host_leaves, from_line_leaves, to_host_leaves, host_down_leaves, resend_leaves, route_leaves, claim_leaves, end_down_leaves, end_up_leaves, give_up_leaves, ask_leaves, forget_leaves, abandon_leaves, host_up_leaves, start_packets}
 use Rattle.imp_node.proofs.law.holding.Goals as goal
 
 pub returns-clause-from_host : goal.returns-clause-from_host
@@ -18,6 +18,9 @@ returns-clause-resend c = resend_leaves
 
 pub returns-clause-route : goal.returns-clause-route
 returns-clause-route c = route_leaves
+
+pub returns-clause-claim : goal.returns-clause-claim
+returns-clause-claim c = claim_leaves
 
 pub returns-clause-end_down : goal.returns-clause-end_down
 returns-clause-end_down c = end_down_leaves

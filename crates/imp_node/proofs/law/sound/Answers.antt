@@ -1,4 +1,4 @@
-use Rattle.imp_node.proofs.Sound.{opening_imp, from_host_imp, from_line_imp, to_host_imp, resend_imp, route_imp, end_down_imp, end_up_imp, give_up_imp, ask_imp, forget_imp, abandon_imp, host_down_imp, host_up_imp}
+use Rattle.imp_node.proofs.Sound.{opening_imp, from_host_imp, from_line_imp, to_host_imp, resend_imp, route_imp, claim_imp, end_down_imp, end_up_imp, give_up_imp, ask_imp, forget_imp, abandon_imp, host_down_imp, host_up_imp}
 use Rattle.imp_node.proofs.law.sound.Goals as goal
 
 pub returns-clause-opening : goal.returns-clause-opening
@@ -18,6 +18,9 @@ returns-clause-resend c = resend_imp
 
 pub returns-clause-route : goal.returns-clause-route
 returns-clause-route c = route_imp
+
+pub returns-clause-claim : goal.returns-clause-claim
+returns-clause-claim c = claim_imp
 
 pub returns-clause-end_down : goal.returns-clause-end_down
 returns-clause-end_down c = end_down_imp

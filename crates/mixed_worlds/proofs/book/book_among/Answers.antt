@@ -1,4 +1,4 @@
-use Rattle.net_sim.specs.MixedWorlds.{strange_in}
+use Rattle.net_sim.specs.Steps.{strange_in}
 use Rattle.mixed_worlds.proofs.book.book_among.Goals as goal
 
 pub returns-clause-among : goal.returns-clause-among

@@ -2,7 +2,7 @@ use Rattle.mixed_worlds.proofs.Common.{◌≡◌, List, Network}
 use Rattle.mixed_worlds.proofs.Moments.{Orders}
 use Rattle.mixed_worlds.proofs.Joined.{joins}
 use Rattle.mixed_worlds.proofs.LinkGrants.{granted}
-use Rattle.mixed_worlds.proofs.Ours.{arrived, fated, over, safe, sent, whole, within}
+use Rattle.mixed_worlds.proofs.Ours.{arrived, between, fated, over, safe, sent, whole, within}
 use Rattle.mixed_worlds.proofs.Settled.{settles}
 use Rattle.world_keeps_lives.proofs.lemmas.{told}
 use Rattle.mixed_worlds.proofs.law.among.Goals as goal
@@ -34,6 +34,8 @@ returns c =
           within c.among.ensures (record { all = hosts; strange = strange }) moments mixed.addresses mixed.run mixed.happen;
       sent = λ strange hosts moments mixed.
           sent c.among.ensures (record { all = hosts; strange = strange }) moments mixed.addresses mixed.run mixed.happen;
+      between = λ strange hosts moments mixed.
+          between c.among.ensures (record { all = hosts; strange = strange }) moments mixed.addresses mixed.run mixed.happen;
       granted = λ strange hosts moments mixed. granted orders strange hosts moments mixed;
       told = λ strange hosts moments mixed.
           told (record { all = hosts; strange = strange }) mixed.addresses moments mixed.run mixed.happen;

@@ -1,5 +1,5 @@
 use Rattle.net_sim.proofs.Common.{◌≡◌, take, is_host}
-use Rattle.net_sim.specs.MixedWorlds.{with_programs}
+use Rattle.net_sim.specs.Steps.{with_programs}
 use Rattle.net_sim.proofs.strangers.programs_of.Given as goal
 
 abbrev pub invariant-loop-host : goal.invariant-loop-host

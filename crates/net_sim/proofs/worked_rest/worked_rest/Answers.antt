@@ -1,4 +1,4 @@
-use Rattle.net_sim.proofs.Common.{◌≡◌, true, false, [], ◌∷◌, Option, Some, None, Ok, Err, IfSome, ap, refl, sym, subst, ◌∙◌, Seen, RefusesOffer, Rests, CarrierFault, HostMessage, NcpState, opening_state, first, second, QuietEnds, WorldFault, stops}
+use Rattle.net_sim.proofs.Common.{◌≡◌, true, false, [], ◌∷◌, Option, Some, None, Ok, Err, IfSome, ap, refl, sym, subst, ◌∙◌, Seen, RefusesOffer, RestsBeside, CarrierFault, HostMessage, NcpState, opening_state, first, second, QuietEnds, WorldFault, stops}
 use Rattle.std.proofs.Common.{Result}
 use Rattle.interface.specs.declared.carrier.CarrierFault.TheVariants as fault
 use Rattle.host_services.specs.Turns as turns
@@ -12,8 +12,8 @@ use Rattle.net_sim.proofs.Hosts.Unresting.{given_moves, taken_moves}
 use Rattle.net_sim.proofs.worked_rest.worked_rest.Goals as goal
 
 -- a carrier of which no more is known may rest, and may refuse each message
-may_rest : (s : Seen) → s.stopped ≡ false → Rests any_carrier.rounds any_carrier.takes s
-may_rest s running = record { round = record { running = running; shown = refl }; takings = λ h. record { answer = Ok None; nothing = tt; unchanged = record { running = running; shown = refl } } }
+may_rest : (s : Seen) → s.stopped ≡ false → RestsBeside any_carrier.rounds any_carrier.takes [] s
+may_rest s running = record { round = record { running = running; shown = refl }; takings = λ h other. record { answer = Ok None; nothing = tt; unchanged = record { running = running; shown = refl } } }
 
 may_refuse : (o : Option HostMessage) → IfSome o (λ m. RefusesOffer any_carrier.offers fresh.carrier m)
 may_refuse None = tt
@@ -21,12 +21,12 @@ may_refuse (Some m) = record { fault = fault.NoRoom; lasts = (refl, refl); uncha
 
 pub returns-clause-silent : goal.returns-clause-silent
 returns-clause-silent c =
-    rests_by accepting_carrier fresh refl (may_rest fresh.carrier refl)
+    rests_by accepting_carrier fresh refl (may_rest fresh.carrier refl) (λ h seat found. refl)
     (λ at below seat found s is. subst (λ (o : Option HostMessage). IfSome o (λ m. RefusesOffer accepting_carrier.offers fresh.carrier m)) (sym (all_mute (first ∷ second ∷ []) at seat s found is)) tt)
 
 pub returns-clause-refused : goal.returns-clause-refused
 unfolding served_notices turns.services_told
-returns-clause-refused c = rests_by any_carrier busy refl (may_rest fresh.carrier refl) (λ at below seat found s is. may_refuse (next_out s))
+returns-clause-refused c = rests_by any_carrier busy refl (may_rest fresh.carrier refl) (λ h seat found. refl) (λ at below seat found s is. may_refuse (next_out s))
 
 pub returns-clause-taken : goal.returns-clause-taken
 unfolding served_notices turns.services_told served next_out

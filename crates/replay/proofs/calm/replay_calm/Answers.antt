@@ -22,10 +22,10 @@ returns-in_err-print_outcome-clause-ends g c =
     (g.W.Output.contents c.args.writer.now) (g.W.Output.contents c.loop.writer) (g.W.Output.contents c.print_outcome.new.writer) c.loop-test.true c.loop.invariant.0 c.pass_round-outcome.ensures.round c.pass_round-outcome.ensures.grew
     c.log-booked.ensures.value c.log.ensures.value c.in_err-print_outcome.ensures.ends)
 
-pub returns-then-rests-clause-ends : goal.returns-then-rests-clause-ends
-returns-then-rests-clause-ends g c =
+pub returns-then-rests_beside-clause-ends : goal.returns-then-rests_beside-clause-ends
+returns-then-rests_beside-clause-ends g c =
     let calls : Calls g.row.C.Denot = g.C.Carrier.calls in
-    rest_passed calls c.args.detail c.args.carrier.now c.loop.carrier c.args.rounds c.loop.counter (g.W.Output.contents c.args.writer.now) (g.W.Output.contents c.loop.writer) c.loop.invariant.0 (c.rests.ensures.unchanged c.if-rests.true)
+    rest_passed calls c.args.detail c.args.carrier.now c.loop.carrier c.args.rounds c.loop.counter (g.W.Output.contents c.args.writer.now) (g.W.Output.contents c.loop.writer) c.loop.invariant.0 (c.rests_beside.ensures.unchanged c.if-rests_beside.true)
 
 pub returns-clause-ends : goal.returns-clause-ends
 returns-clause-ends g c =

@@ -1,4 +1,4 @@
-use Rattle.std.proofs.Common.{◌≡◌, ◌+◌, ◌≤◌, ℕ, arith, sym, ◌∙◌, subst, get_or, slice_set}
+use Rattle.std.proofs.Common.{false, ◌≡◌, ◌+◌, ◌≤◌, ℕ, arith, sym, ◌∙◌, subst, get_or, slice_set}
 use Rattle.std.proofs.lemmas.List.FromFn.{fill_by_all}
 use Rattle.std.proofs.lemmas.List.Edits.{fill_by_more}
 use Rattle.std.proofs.lemmas.List.Elements.{All-set, All-replicate}
@@ -21,20 +21,19 @@ loop-place-preserved c =
     let imp : ℕ = c.loop-place.place + 1 in
     let least : get_or c.all_least_heard-least.result c.loop-place.place 0 ≡ least_heard c.args.ports.now imp =
     c.all_least_heard-least.ensures.least c.loop-place.place c.loop-place-test.true in
-    let is : c.distance_by.result ≡ distance_to (record { own = c.args.own; heard = c.args.ports.now }) imp =
-    c.distance_by.ensures.value ∙ distance-by (record { own = c.args.own; heard = c.args.ports.now }) imp (get_or c.all_least_heard-least.result c.loop-place.place 0) least in
+    let is : c.distance_by.result ≡ distance_to (record { own = c.args.own; heard = c.args.ports.now; claims = false }) imp =
+    c.distance_by.ensures.value ∙ distance-by (record { own = c.args.own; heard = c.args.ports.now; claims = false }) imp (get_or c.all_least_heard-least.result c.loop-place.place 0) least in
     record {
       one_each = omega (arith, length-set {A = ℕ} c.loop-place.distances c.loop-place.place c.distance_by.result);
-      far = λ k below. subst (λ (v : ℕ). get_or (slice_set c.loop-place.distances c.loop-place.place v) k 0 ≡ distance_to (record { own = c.args.own; heard = c.args.ports.now }) (k + 1)) (sym is)
-          (fill_by_more (λ (k : ℕ). distance_to (record { own = c.args.own; heard = c.args.ports.now }) (k + 1)) c.loop-place.distances c.loop-place.place 0 (omega arith) c.loop-place.invariant.far k below);
+      far = λ k below. subst (λ (v : ℕ). get_or (slice_set c.loop-place.distances c.loop-place.place v) k 0 ≡ distance_to (record { own = c.args.own; heard = c.args.ports.now; claims = false }) (k + 1)) (sym is)
+          (fill_by_more (λ (k : ℕ). distance_to (record { own = c.args.own; heard = c.args.ports.now; claims = false }) (k + 1)) c.loop-place.distances c.loop-place.place 0 (omega arith) c.loop-place.invariant.far k below);
       in_range = All-set (λ (d : ℕ). d ≤ infinite) c.loop-place.distances c.loop-place.place c.distance_by.result c.distance_by.ensures.most c.loop-place.invariant.in_range;
     }
 
 pub returns : goal.returns
-unfolding vector_of
 returns c = record {
   told_is = c.new.ensures
-      ∙ fill_by_all (λ (k : ℕ). distance_to (record { own = c.args.own; heard = c.args.ports.now }) (k + 1)) c.loop-place.distances most_imps 0 c.loop-place.invariant.one_each
+      ∙ fill_by_all (λ (k : ℕ). distance_to (record { own = c.args.own; heard = c.args.ports.now; claims = false }) (k + 1)) c.loop-place.distances most_imps 0 c.loop-place.invariant.one_each
       (λ k below. c.loop-place.invariant.far k (omega arith));
   no_imp = c.all_least_heard-least.ensures.no_imp;
 }

@@ -1,6 +1,5 @@
+use Rattle.session.proofs.Common.{All-append, IsLine}
 use Rattle.std.proofs.Common.{rules, ◌≡◌, ◌+◌, ◌==◌, ◌++◌, ℕ, List, false, length, take, sym, ap, ◌∙◌, arith, subst}
-use Rattle.std.proofs.lemmas.List.Elements.{All-append}
-use Rattle.session.specs.Hearing.{IsLine}
 use Rattle.session.proofs.Lines.{end_came, grown, takes}
 use Rattle.session.proofs.hearing.hear.Goals as goal
 

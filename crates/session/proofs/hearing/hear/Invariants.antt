@@ -1,6 +1,5 @@
+use Rattle.session.proofs.Common.{Keeps, prepend_known, IsLine}
 use Rattle.std.proofs.Common.{◌≡◌, ◌≤◌, ◌+◌, ◌-◌, false, length}
-use Rattle.std.specs.Io.KnownBytes.{Keeps, prepend_known}
-use Rattle.session.specs.Hearing.{IsLine}
 use Rattle.session.proofs.hearing.hear.Given as goal
 
 -- what was read ahead, in which no line has its end, and what is left to be read are what was left

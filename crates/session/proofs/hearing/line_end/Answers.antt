@@ -1,5 +1,5 @@
+use Rattle.session.proofs.Common.{append_assoc, length-append}
 use Rattle.std.proofs.Common.{[], ◌∷◌, sym, ◌∙◌}
-use Rattle.std.proofs.lemmas.List.{append_assoc, length-append}
 use Rattle.session.proofs.hearing.line_end.Goals as goal
 
 pub returns : goal.returns

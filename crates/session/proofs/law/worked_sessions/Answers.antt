@@ -1,6 +1,6 @@
-use Rattle.std.proofs.Common.{◌≡◌, ◌==◌, ℕ, zero, suc, List, [], ◌∷◌, codes, false, inl, ap, sym, ◌∙◌, refl, take}
+use Rattle.session.proofs.Common.{IsLine}
 use Rattle.std.proofs.lemmas.List.Elements.{All-cons, All-nil}
-use Rattle.session.specs.Hearing.{IsLine}
+use Rattle.std.proofs.Common.{◌≡◌, ◌==◌, ℕ, zero, suc, List, [], ◌∷◌, codes, false, inl, ap, sym, ◌∙◌, refl, take}
 use Rattle.session.specs.Laws.{Echoes, two}
 use Rattle.session.specs.Turns.{Turn, answers_of, script_of}
 use Rattle.session.proofs.Turns.{take_none}

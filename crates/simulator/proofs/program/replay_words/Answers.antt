@@ -1,10 +1,9 @@
-use Rattle.simulator.proofs.Common.{◌≡◌, ◌⊎◌, ℕ, List, Option, Result, Err, IfSome, OnOk, false, map, ap, refl, subst, Keeps, Options, ScriptFault, Sides, RanEither, ReplaysEither, StopsEither}
+use Rattle.simulator.proofs.Common.{Keeps, Options, ScriptFault}
+use Rattle.std.proofs.Common.{◌≡◌, ◌⊎◌, ℕ, List, Option, Result, Err, IfSome, OnOk, false, map, ap, refl, subst, string_bytes}
+use Rattle.simulator.specs.Program.{Sides, sides}
+use Rattle.command_line.specs.Replayed.{Ran, RanInPart, ReplaysInput, StopsInput}
 use Rattle.replay.specs.declared.print.Detail.{Detail}
-use Rattle.command_line.specs.Either.{RanEitherInPart}
-use Rattle.command_line.specs.Options.{options_of}
-use Rattle.std.proofs.Common.{string_bytes}
-use Rattle.command_line.specs.Options.{options_in}
-use Rattle.simulator.specs.Program.{sides}
+use Rattle.command_line.specs.Options.{options_of, options_in}
 use Rattle.command_line.specs.declared.fault.ScriptFault.TheVariants as fault
 use Rattle.simulator.proofs.Jobs.{asked_ends, keeps_same, no_memory, replayed_if}
 use Rattle.simulator.proofs.program.replay_words.Goals as goal
@@ -29,21 +28,21 @@ returns-in-Ok-clause-ends g c =
     c.hand_on.result c.in-Ok.ensures c.hand_on.ensures.hands
     (record {
       replayed = replayed_if o.check o s r c.run_script-ended.ensures.checked
-          (subst (λ (d : Detail). o.check ≡ false → OnOk r (RanEither o.book d before written)) c.detail.ensures
+          (subst (λ (d : Detail). o.check ≡ false → OnOk r (Ran o.book d before written)) c.detail.ensures
           c.run_script-ended.ensures.ran)
           (subst (λ (d : Detail). o.check ≡ false
-          → OnOk r (IfSome input (λ octets. ReplaysEither o.book d octets before written)))
+          → OnOk r (IfSome input (λ octets. ReplaysInput o.book d octets before written)))
           c.detail.ensures c.run_script-ended.ensures.replayed);
       read = c.run_script-ended.ensures.read;
       options_read = c.run_script-ended.ensures.options;
       reads = c.run_script-ended.ensures.reads;
       reads_all = c.run_script-ended.ensures.reads_all;
       ran_in_part =
-          subst (λ (d : Detail). r ≡ Err fault.OutOfMemory → Keeps before written ⊎ RanEitherInPart d before written)
+          subst (λ (d : Detail). r ≡ Err fault.OutOfMemory → Keeps before written ⊎ RanInPart d before written)
           c.detail.ensures c.run_script-ended.ensures.ran_in_part;
       first_part =
           subst (λ (d : Detail). r ≡ Err fault.OutOfMemory
-          → IfSome input (λ octets. Keeps before written ⊎ StopsEither d octets before written))
+          → IfSome input (λ octets. Keeps before written ⊎ StopsInput d octets before written))
           c.detail.ensures c.run_script-ended.ensures.first_part;
       nothing = λ on e. keeps_same before written
           (ap g.W.Output.contents (c.run_script-ended.ensures.check_memory on e));

@@ -1,5 +1,7 @@
+use Rattle.simulator.proofs.Common.{ap, ◌∙◌, asked_of}
+use Rattle.std.proofs.Common.{length}
+use Rattle.simulator.specs.Traced.{IsScriptOf}
 use Rattle.command_line.proofs.lemmas.{input_wants}
-use Rattle.simulator.proofs.Common.{ap, ◌∙◌, asked_of, IsScriptOf, length}
 use Rattle.simulator.proofs.Traces.Traced.{lines_fit}
 use Rattle.simulator.proofs.tracing.read_scripted.Goals as goal
 

@@ -1,4 +1,5 @@
-use Rattle.simulator.proofs.Common.{Err, ap, Calls, Inside, told_memory, told_write}
+use Rattle.simulator.proofs.Common.{Err, ap, Calls, told_memory, told_write}
+use Rattle.trace.specs.Traces.{Inside}
 use Rattle.simulator.proofs.Traces.Traced.{flushed_trace}
 use Rattle.simulator.proofs.tracing.trace_from.Goals as goal
 

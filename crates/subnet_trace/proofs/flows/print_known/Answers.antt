@@ -1,4 +1,5 @@
-use Rattle.subnet_trace.proofs.Common.{◌≡◌, ◌∙◌, ◌++◌, List, ap, map, subst, ℕ, Appends, IfOk-weaker, on_ok, kept_part, source_part, told}
+use Rattle.subnet_trace.proofs.Common.{◌≡◌, ◌∙◌, ◌++◌, List, ap, map, subst, ℕ, Appends, IfOk-weaker, on_ok, kept_part, told}
+use Rattle.subnet_trace.specs.Texts.{source_part}
 use Rattle.subnet_trace.specs.Printing.{members_behind, place_after_members}
 use Rattle.std.specs.FinMap as fin
 use Rattle.subnet_trace.proofs.PrintedParts.{both_after, both_printed}

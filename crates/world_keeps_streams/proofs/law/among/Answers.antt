@@ -2,6 +2,7 @@ use Rattle.world_keeps_streams.proofs.Books.Agree.{settled}
 use Rattle.world_keeps_streams.proofs.Books.All.{sent, source}
 use Rattle.world_keeps_streams.proofs.Books.Answered.{answered}
 use Rattle.world_keeps_streams.proofs.Books.Arrives.{arrives}
+use Rattle.world_keeps_streams.proofs.Books.Between.{is_between}
 use Rattle.world_keeps_streams.proofs.Books.Calm.{calm}
 use Rattle.world_keeps_streams.proofs.Books.Came.{all_came}
 use Rattle.world_keeps_streams.proofs.Books.Closes.{rests}
@@ -23,6 +24,7 @@ returns c = record {
   lives = λ hosts moments. among_same hosts.strange moments;
   source = λ hosts moments l x ours there. source hosts moments l.0 l.1 l.2 x ours there;
   was_sent = each_was_sent;
+  between = is_between;
   closes = closes_whole;
   came = all_came;
   ended = λ hosts moments l x ours there kind.

@@ -6,6 +6,7 @@ use Rattle.world_keeps_streams.proofs.Books.All.{sent, source}
 use Rattle.world_keeps_streams.proofs.Books.Answered.{answered}
 use Rattle.world_keeps_streams.proofs.Ends.Arrived.{arrived_book}
 use Rattle.world_keeps_streams.proofs.Books.Arrives.{arrives}
+use Rattle.world_keeps_streams.proofs.Books.Between.{each_is_between}
 use Rattle.world_keeps_streams.proofs.Books.Calm.{all_calm}
 use Rattle.world_keeps_streams.proofs.Books.Came.{all_came}
 use Rattle.world_keeps_streams.proofs.Books.Closes.{rests}
@@ -25,6 +26,7 @@ pub returns : goal.returns
 returns c = record {
   source = λ hosts moments addresses run time receiver. source (all_ours hosts) moments addresses run (happened hosts moments time) receiver (refl, refl);
   was_sent = λ hosts moments addresses run time. all_was_sent hosts moments (addresses, run, happened hosts moments time);
+  between = λ hosts moments addresses run time. each_is_between hosts moments (addresses, run, happened hosts moments time);
   closes = λ hosts moments addresses run time receiver closed. closes_whole (all_ours hosts) moments (addresses, run, happened hosts moments time) receiver (refl, refl) closed (refl, refl);
   came = λ hosts moments addresses run time later earlier is x. all_came (all_ours hosts) moments (addresses, run, happened hosts moments time) later earlier is x (refl, refl);
   handed = λ hosts moments addresses run time receiver. took_handed hosts moments (addresses, run, happened hosts moments time) receiver;

@@ -3,6 +3,7 @@ use Rattle.world_keeps_streams.proofs.Books.All.{world_sent, world_source}
 use Rattle.world_keeps_streams.proofs.Books.Answered.{world_answered}
 use Rattle.world_keeps_streams.proofs.Ends.Arrived.{world_arrived}
 use Rattle.world_keeps_streams.proofs.Books.Arrives.{world_arrives}
+use Rattle.world_keeps_streams.proofs.Books.Between.{world_between}
 use Rattle.world_keeps_streams.proofs.Books.Calm.{world_calms}
 use Rattle.world_keeps_streams.proofs.Books.Came.{world_came}
 use Rattle.world_keeps_streams.proofs.Books.Closes.{world_rests}
@@ -22,6 +23,7 @@ pub returns : goal.returns
 returns g c = record {
   source = λ hosts. world_source hosts g.C.Carrier.calls.seen;
   was_sent = world_was_sent g.C.Carrier.calls.seen;
+  between = world_between g.C.Carrier.calls.seen;
   closes = world_closes g.C.Carrier.calls.seen;
   came = world_came g.C.Carrier.calls.seen;
   handed = world_handed_over g.C.Carrier.calls.seen;

@@ -6,6 +6,7 @@ use Rattle.bit_messages.specs.Octets.{octets_of}
 use Rattle.ncp_control.specs.Reading.{command_of, read_of}
 use Rattle.host_pairs.specs.Control.{orders_of}
 use Rattle.promise.specs.declared.life.Life.{Life}
+use Rattle.world_keeps_lives.proofs.lemmas.{gave_stray}
 use Rattle.world_keeps_streams.specs.Sent.{WasSent}
 use Rattle.world_keeps_streams.specs.WorkedSent.{again_log, early_log, gap_log, gave_twice, took_twice, unsent_log}
 use Rattle.world_keeps_streams.proofs.worked_sent.worked_sent.Goals as goal
@@ -34,10 +35,6 @@ took_gap = refl
 gave_gap : link_of gap_log gave ≡ Some 2
 unfolding octets_of orders_of read_of command_of
 gave_gap = refl
-
-gave_stray : link_of stray_log gave ≡ Some 2
-unfolding octets_of orders_of read_of command_of
-gave_stray = refl
 
 pairs : Match two_log took_twice gave_twice
 pairs = record {

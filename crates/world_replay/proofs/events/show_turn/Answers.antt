@@ -1,6 +1,6 @@
 use Rattle.world_replay.proofs.Common.{◌≡◌, ◌≤◌, true, length, ap, rules, subst, ◌∙◌, arith, length-reverse, Kept, shown, stops, Calls, Gains}
 use Rattle.replay.proofs.lemmas.{on_ok}
-use Rattle.world_replay.proofs.Grown.{longer, more_notices, more_reports, step_gains}
+use Rattle.world_replay.proofs.Grown.{longer, more_notices, more_reports, turn_gains}
 use Rattle.world_replay.proofs.Replays.{News, calm_shown, calm_stopped}
 use Rattle.world_replay.proofs.events.show_turn.Goals as goal
 
@@ -8,7 +8,7 @@ pub print_news-requires-clause-crossed : goal.print_news-requires-clause-crossed
 print_news-requires-clause-crossed g c =
     let calls : Calls g.row.C.Denot = shown g.C.Carrier.calls in
     let grew : Gains (g.R.Turning.state c.args.world.now).kept (g.R.Turning.state c.turn-outcome.new.self).kept =
-    step_gains calls c.args.event (g.R.Turning.state c.args.world.now) c.turn-outcome.result
+    turn_gains calls c.args.event (g.R.Turning.state c.args.world.now) c.turn-outcome.result
     (g.R.Turning.state c.turn-outcome.new.self) c.turn-outcome.ensures.gives in
     let was : length c.crossings-crossed.result.now ≡ length (g.R.Turning.state c.args.world.now).kept.book.crossings =
     ap length c.crossings-crossed.ensures ∙ length-reverse c.book.result.book.crossings
@@ -25,7 +25,7 @@ pub print_news-requires-clause-told : goal.print_news-requires-clause-told
 print_news-requires-clause-told g c =
     let calls : Calls g.row.C.Denot = shown g.C.Carrier.calls in
     let grew : Gains (g.R.Turning.state c.args.world.now).kept (g.R.Turning.state c.turn-outcome.new.self).kept =
-    step_gains calls c.args.event (g.R.Turning.state c.args.world.now) c.turn-outcome.result
+    turn_gains calls c.args.event (g.R.Turning.state c.args.world.now) c.turn-outcome.result
     (g.R.Turning.state c.turn-outcome.new.self) c.turn-outcome.ensures.gives in
     let was : length c.notices-told.result.now ≡ length (g.R.Turning.state c.args.world.now).kept.book.notices =
     ap length c.notices-told.ensures ∙ ap (λ (k : Kept). length k.book.notices) c.book-2.ensures in
@@ -41,7 +41,7 @@ pub print_news-requires-clause-said : goal.print_news-requires-clause-said
 print_news-requires-clause-said g c =
     let calls : Calls g.row.C.Denot = shown g.C.Carrier.calls in
     let grew : Gains (g.R.Turning.state c.args.world.now).kept (g.R.Turning.state c.turn-outcome.new.self).kept =
-    step_gains calls c.args.event (g.R.Turning.state c.args.world.now) c.turn-outcome.result
+    turn_gains calls c.args.event (g.R.Turning.state c.args.world.now) c.turn-outcome.result
     (g.R.Turning.state c.turn-outcome.new.self) c.turn-outcome.ensures.gives in
     let was : length c.reports-said.result.now ≡ length (g.R.Turning.state c.args.world.now).kept.book.reports =
     ap length c.reports-said.ensures ∙ ap (λ (k : Kept). length k.book.reports) c.book-3.ensures in

@@ -1,5 +1,5 @@
 use Rattle.interface.specs.Calls.{Calls}
-use Rattle.world_replay.proofs.Replays.{first_part, one_replay}
+use Rattle.world_replay.proofs.Once.{first_part, one_replay}
 use Rattle.world_replay.proofs.law.one_replay.Goals as goal
 
 pub returns : goal.returns

@@ -1,12 +1,12 @@
 use Rattle.world_replay.proofs.Common.{◌≡◌, [], ◌∷◌, Option, None, Some, Result, Ok, Err, refl, subst, sym, MatchBool, WorldFault, NoProgram, Carrier, Offer, third, beside_third}
 use Rattle.interface.specs.Calls.{Seen}
 use Rattle.net_sim.specs.World.{WorldState, Passes, stops}
-use Rattle.net_sim.specs.MixedWorlds.{FetchEnds, OutEnds, MixedRuns}
+use Rattle.net_sim.specs.Steps.{FetchEnds, OutEnds, Runs}
 use Rattle.interface.specs.declared.carrier.CarrierFault.{CarrierFault}
 use Rattle.interface.specs.declared.carrier.CarrierFault.TheVariants as fault
 use Rattle.interface.specs.declared.crossing.Inbound.{Inbound}
 use Rattle.world_replay.specs.WorkedBeside.{closed_carrier, tired_carrier}
-use Rattle.world_replay.specs.WorkedMixed.{hail}
+use Rattle.world_replay.specs.WorkedStrangers.{hail}
 use Rattle.world_replay.proofs.worked_beside.worked_answered.Goals as goal
 
 abbrev world : WorldState Seen
@@ -45,12 +45,12 @@ after f answer r mid new Rest is h =
 -- the stranger is asked for nothing, whatever the carrier is by then, and nothing follows
 goes_on : (c : Seen) (mid : WorldState Seen) (r : Result (Unit {0}) WorldFault) (new : WorldState Seen)
     → mid ≡ record world { carrier = c }
-    → MixedRuns closed_carrier mid (Offer third ∷ []) r new → r ≡ Ok tt
+    → Runs closed_carrier mid (Offer third ∷ []) r new → r ≡ Ok tt
 goes_on c mid r new is h =
-    let runs : MixedRuns closed_carrier (record world { carrier = c }) (Offer third ∷ []) r new =
-    subst (λ (s : WorldState Seen). MixedRuns closed_carrier s (Offer third ∷ []) r new) is h in
+    let runs : Runs closed_carrier (record world { carrier = c }) (Offer third ∷ []) r new =
+    subst (λ (s : WorldState Seen). Runs closed_carrier s (Offer third ∷ []) r new) is h in
     let (answer, next, step, rest) = runs in
-    (after NoProgram answer r next new (MixedRuns closed_carrier next [] r new) step.0 rest).0
+    (after NoProgram answer r next new (Runs closed_carrier next [] r new) step.0 rest).0
 
 pub returns-clause-nothing : goal.returns-clause-nothing
 returns-clause-nothing g r new (a, c, call, ends) = nothing a c r new call.0 ends
@@ -62,10 +62,10 @@ returns-clause-blocked g r new (a, c, call, ends) =
 pub returns-clause-memory : goal.returns-clause-memory
 returns-clause-memory g r new (answer, mid, (a, c, call, ends), rest) =
     let p = passes fault.OutOfMemory a c answer mid call.0 ends in
-    (after (Carrier fault.OutOfMemory) answer r mid new (MixedRuns tired_carrier mid (Offer third ∷ []) r new) p.0 rest).0
+    (after (Carrier fault.OutOfMemory) answer r mid new (Runs tired_carrier mid (Offer third ∷ []) r new) p.0 rest).0
 
 pub returns-clause-refused : goal.returns-clause-refused
 returns-clause-refused g r new (answer, mid, (a, c, call, ends), rest) =
     let p = passes fault.Blocked a c answer mid call.0 ends in
     goes_on c mid r new p.1
-    (after (Carrier fault.Blocked) answer r mid new (MixedRuns closed_carrier mid (Offer third ∷ []) r new) p.0 rest)
+    (after (Carrier fault.Blocked) answer r mid new (Runs closed_carrier mid (Offer third ∷ []) r new) p.0 rest)

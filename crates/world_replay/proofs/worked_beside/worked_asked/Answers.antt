@@ -1,13 +1,14 @@
-use Rattle.world_replay.proofs.Common.{[], ◌∷◌, Err, refl, NoProgram, HasProgram, any_carrier, message, WorldFault, WorldEvent, HappensBy, mixed_kind, first, second, third, Offer, Server, Typed, User, beside_third}
+use Rattle.world_replay.proofs.Common.{[], ◌∷◌, Err, refl, NoProgram, HasProgram, any_carrier, message, WorldFault, WorldEvent, first, second, third, Offer, Server, Typed, User, beside_third}
+use Rattle.world_replay.specs.Replay.{Happens}
 use Rattle.interface.specs.declared.crossing.Crossing.TheVariants as crossing
 use Rattle.world_replay.specs.Output.{Crossed, Refused}
 use Rattle.world_replay.specs.WorkedBeside.{event, saying}
-use Rattle.world_replay.specs.WorkedMixed.{MayShow, hail}
+use Rattle.world_replay.specs.WorkedStrangers.{MayShow, hail}
 use Rattle.world_replay.proofs.Strangers.{goes_out, refused_only, sent}
 use Rattle.world_replay.proofs.worked_beside.worked_asked.Goals as goal
 
 -- what is refused happens, shows that, and leaves all as it was
-asked : HappensBy (mixed_kind any_carrier) beside_third (event (Offer third)) beside_third (Refused NoProgram ∷ [])
+asked : Happens any_carrier beside_third (event (Offer third)) beside_third (Refused NoProgram ∷ [])
 asked = record {
   outcome = Err NoProgram;
   gives = (refl, refl);
@@ -16,7 +17,7 @@ asked = record {
   lines = refl;
 }
 
-spoken : HappensBy (mixed_kind any_carrier) beside_third (saying (message first second 2)) beside_third (Refused HasProgram ∷ [])
+spoken : Happens any_carrier beside_third (saying (message first second 2)) beside_third (Refused HasProgram ∷ [])
 spoken = record {
   outcome = Err HasProgram;
   gives = (refl, refl);
@@ -27,7 +28,7 @@ spoken = record {
 
 -- and then the stranger's message goes out
 then_hails : (e : WorldEvent) (f : WorldFault)
-    → HappensBy (mixed_kind any_carrier) beside_third e beside_third (Refused f ∷ [])
+    → Happens any_carrier beside_third e beside_third (Refused f ∷ [])
     → MayShow any_carrier (e ∷ saying hail ∷ []) (Refused f ∷ Crossed (crossing.Out hail) ∷ [])
 then_hails e f h = (
   sent,

@@ -1,5 +1,5 @@
 use Rattle.world_trace.proofs.Common.{List, subst, shown, Calls, WorldEvent}
-use Rattle.world_replay.specs.Kinds.{BreaksOffBy, RunsOutBy, mixed_kind}
+use Rattle.world_replay.specs.Replay.{EndsIn, MayDo, StopsIn}
 use Rattle.world_replay.specs.Output.{Shown}
 use Rattle.world_trace.proofs.Strangers.{ended_mixed}
 use Rattle.world_trace.proofs.mixed.happen.Goals as goal
@@ -12,8 +12,8 @@ returns-in-Err-clause-memory g c =
     ended_mixed calls old new c.args.event c.in-Err.field-0
     (λ e. (
     let w = c.in-Err.ensures.memory e in
-    subst (λ (es : List WorldEvent). (lines : List Shown) × RunsOutBy (mixed_kind calls) old es new lines)
+    subst (λ (es : List WorldEvent). (lines : List Shown) × EndsIn calls (StopsIn calls) old es new lines)
     c.in_ok-events.ensures.items (w.shown, w.is_shown)))
     (λ e. subst
-    (λ (es : List WorldEvent). (lines : List Shown) × BreaksOffBy (mixed_kind calls) old es new lines)
+    (λ (es : List WorldEvent). (lines : List Shown) × EndsIn calls (MayDo calls) old es new lines)
     c.in_ok-events.ensures.items (c.in-Err.ensures.cannot_write e))

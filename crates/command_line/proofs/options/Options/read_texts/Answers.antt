@@ -1,8 +1,12 @@
-use Rattle.command_line.proofs.Common.{rules, ◌≡◌, ◌≢◌, ◌∙◌, ap, sym, subst, codes, map, Some, true, List, inl, inr, false≢true, bytes_eq, list_any, one_of, HasKind, kind_of, command_line}
-use Rattle.std.proofs.Common.{Bor}
+use Rattle.command_line.proofs.Common.{false≢true, list_any}
+use Rattle.std.proofs.Common.{rules, ◌≡◌, ◌≢◌, ◌∙◌, ap, sym, subst, codes, map, Some, true, List, inl, inr, Bor}
+use Rattle.std.specs.Str.{bytes_eq}
+use Rattle.clap.specs.Walk.{one_of, Text, rows_of}
+use Rattle.clap.specs.Kinds.{HasKind}
+use Rattle.clap.specs.Values.{kind_of}
+use Rattle.command_line.specs.Parser.{command_line}
 use Rattle.clap.proofs.WalkLemmas.{list_any-map, one_text-rows}
 use Rattle.clap.specs.Matches.{found_of}
-use Rattle.clap.specs.Walk.{Text, rows_of}
 use Rattle.clap.specs.Words.{App, app_of, fault_of, is_simple, is_simple_and_free, matches_of}
 use Rattle.clap.specs.declared.error.kind.ErrorKind.TheVariants as kind
 use Rattle.command_line.proofs.Flags.Words.{Verdict, flag_is, is_simple_line, marked, refused, verdict}

@@ -1,4 +1,4 @@
-use Rattle.net_sim.specs.MixedWorlds.{strange_in}
+use Rattle.net_sim.specs.Steps.{strange_in}
 use Rattle.net_sim.proofs.Books.Fated.{among_fated}
 use Rattle.net_sim.proofs.mixed_world.MixedWorld.fates.Goals as goal
 

@@ -1,4 +1,4 @@
-use Rattle.net_sim.specs.MixedWorlds.{strange_in}
+use Rattle.net_sim.specs.Steps.{strange_in}
 use Rattle.net_sim.proofs.Books.Unhanded.{among_unhanded}
 use Rattle.net_sim.proofs.mixed_world.MixedWorld.handed.Goals as goal
 

@@ -1,14 +1,14 @@
 use Rattle.net_sim.proofs.Common.{rules, ◌≡◌, ◌∷◌, List, true, false, subst, shown, Calls}
-use Rattle.net_sim.specs.MixedWorlds.{MixedRuns}
+use Rattle.net_sim.specs.Steps.{Runs}
 use Rattle.net_sim.specs.World.{Event, stops}
-use Rattle.net_sim.proofs.Books.RunLoop.{mixed_ends, mixed_more, mixed_on}
+use Rattle.net_sim.proofs.Books.RunLoop.{run_ends, run_more, runs_on}
 use Rattle.net_sim.proofs.mixed_world.MixedWorld.run.Goals as goal
 
 pub loop-event-init : goal.loop-event-init
 loop-event-init g c =
     let calls : Calls g.row.C.Denot = g.C.Carrier.calls in
     let gives : c.into_iter-event-iterator.result.rest.items ≡ c.args.events.items = search rules in
-    λ r new rest. subst (λ (es : List Event). MixedRuns (shown calls) c.args.self.now es r new) gives rest
+    λ r new rest. subst (λ (es : List Event). Runs (shown calls) c.args.self.now es r new) gives rest
 
 pub returns-then-stops : goal.returns-then-stops
 returns-then-stops g c =
@@ -17,9 +17,9 @@ returns-then-stops g c =
     let later : List Event = c.next.new.self.rest.items in
     let is : left ≡ c.in-Some.event ∷ later = c.in-Some.ensures.steps.0 in
     let off : stops c.step-done.result ≡ true = search rules in
-    mixed_on (shown calls) c.args.events.items c.args.self.now c.step-done.result c.step-done.new.self (search rules)
+    runs_on (shown calls) c.args.events.items c.args.self.now c.step-done.result c.step-done.new.self (search rules)
     (c.loop-event.invariant c.step-done.result c.step-done.new.self
-    (mixed_ends (shown calls) left later c.in-Some.event is c.loop-event.self c.step-done.new.self c.step-done.result
+    (run_ends (shown calls) left later c.in-Some.event is c.loop-event.self c.step-done.new.self c.step-done.result
     c.step-done.ensures off))
 
 pub loop-event-preserved : goal.loop-event-preserved
@@ -30,5 +30,5 @@ loop-event-preserved g c =
     let is : left ≡ c.in-Some.event ∷ later = c.in-Some.ensures.steps.0 in
     let on : stops c.step-done.result ≡ false = search rules in
     λ r new rest. c.loop-event.invariant r new
-    (mixed_more (shown calls) left later c.in-Some.event is c.loop-event.self c.step-done.new.self c.step-done.result
+    (run_more (shown calls) left later c.in-Some.event is c.loop-event.self c.step-done.new.self c.step-done.result
     c.step-done.ensures on r new rest)

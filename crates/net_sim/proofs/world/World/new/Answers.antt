@@ -1,8 +1,8 @@
 use Rattle.net_sim.proofs.Common.{rules, ◌≡◌, List, [], ap, subst, ◌∙◌, sym, Calls, InOrder, Host, IsAddress, IsOnce}
 use Rattle.std.specs.List.{All}
 use Rattle.net_sim.specs.Inside.Parts.{opening_hosts}
-use Rattle.net_sim.proofs.Books.Held.{once_in_order}
-use Rattle.net_sim.proofs.Books.HeldMixed.{opening_held}
+use Rattle.net_sim.proofs.Books.Held.{opening_held}
+use Rattle.net_sim.proofs.Books.Seated.{once_in_order}
 use Rattle.net_sim.proofs.world.World.new.Goals as goal
 
 pub new-requires : goal.new-requires

@@ -1,7 +1,6 @@
+use Rattle.session.proofs.Common.{Texts, KeepsRun}
 use Rattle.replay.specs.Output.{shown_text}
 use Rattle.replay.specs.Replay.{Happens}
-use Rattle.replay.specs.declared.print.Detail.TheVariants.{Texts}
-use Rattle.session.specs.Networks.{KeepsRun}
 use Rattle.session.proofs.Parts.{goes_on}
 use Rattle.session.proofs.networks.BareStageRawEvent.goes_on.Goals as goal
 

@@ -4,4 +4,4 @@ use Rattle.subnet.proofs.parts.Parts.all_take_nothing.Given as goal
 
 -- the hosts so far
 abbrev pub invariant-loop-at : goal.invariant-loop-at
-invariant-loop-at l = (i : ℕ) → i < l.at → TakesNoneAt l.self i
+invariant-loop-at l = (i : ℕ) → i < l.at → TakesNoneAt l.self l.hosts i

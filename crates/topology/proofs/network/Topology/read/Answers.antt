@@ -1,4 +1,8 @@
-use Rattle.topology.proofs.Common.{◌≡◌, codes, subst, true, Data, table_view, view-Table, has}
+use Rattle.topology.proofs.Common.{◌≡◌, subst, true, Data}
+use Rattle.topology.specs.Topology.{has}
+use Rattle.toml.specs.View.{table_view}
+use Rattle.toml.proofs.Views.{view-Table}
+use Rattle.std.proofs.Common.{codes}
 use Rattle.topology.proofs.Documents.{no_imps}
 use Rattle.topology.proofs.network.Topology.read.Goals as goal
 

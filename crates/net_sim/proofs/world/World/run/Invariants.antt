@@ -1,9 +1,0 @@
-use Rattle.net_sim.proofs.Common.{drop, shown, Runs, WorldFault, WorldState, Calls}
-use Rattle.std.specs.Prelude.{Result}
-use Rattle.net_sim.proofs.world.World.run.Given as goal
-
--- what comes of the events that are left comes of all
-abbrev pub invariant-loop-event : goal.invariant-loop-event
-invariant-loop-event g l =
-    let calls : Calls g.row.C.Denot = g.C.Carrier.calls in
-    (r : Result (Unit {0}) WorldFault) (new : WorldState g.row.C.Denot) → Runs (shown calls) l.self (drop l.event-index l.events) r new → Runs (shown calls) l.fn.self l.fn.events r new

@@ -1,5 +1,0 @@
-use Rattle.std.proofs.Common.{length}
-use Rattle.topology.proofs.mixed.+is_foreign.Given as goal
-
-abbrev pub decreases-is_foreign : goal.decreases-is_foreign
-decreases-is_foreign l = length l.imps.now
