@@ -1,8 +1,9 @@
 -- What ALLs grant to a life, by the places of a log, and whether lives are within that.
-use Rattle.book_judge.proofs.Common.{◌≡◌, ℕ, suc, ◌+◌, ◌<◌, ◌≤◌, ◌==◌, ◌&&◌, ◌⊎◌, Bool, true, false, if◌then◌else◌, List, [], ◌∷◌, ◌++◌, length, take, reverse, Option, Some, None, MatchBool, refl, ap, sym, subst, ◌∙◌, inl, inr, arith, cases_lt, and_from, eqb-true, false_from_ne_true, get_or, slice_get_read, take_all, length-reverse, reverse-append, reverse-reverse, slice_get_within, Flow, same_flow, Host, same_host, Crossing, HostMessage, Legal, Order, Wrong, orders_of, Contains, AreNamed, AreStarts, FoundFirst, GrantedAt, ShowsLife, WithMatch, Finding, Name, Start, control_flow, receives, sends, Life}
+use Rattle.book_judge.proofs.Common.{◌≡◌, ℕ, suc, ◌+◌, ◌<◌, ◌≤◌, ◌==◌, ◌&&◌, ◌⊎◌, Bool, true, false, if◌then◌else◌, List, [], ◌∷◌, ◌++◌, length, take, reverse, Option, Some, None, MatchBool, refl, ap, sym, subst, ◌∙◌, inl, inr, arith, cases_lt, and_from, false_from_ne_true, get_or, slice_get_read, take_all, length-reverse, reverse-append, reverse-reverse, slice_get_within, Flow, same_flow, Host, same_host, Crossing, HostMessage, Legal, Order, Wrong, orders_of, Contains, AreNamed, AreStarts, FoundFirst, GrantedAt, ShowsLife, WithMatch, Finding, Name, Start, control_flow, receives, sends, Life}
 use Rattle.std.specs.Prelude.{max, min, nat_le, nat_lt, ◌%◌}
 use Rattle.std.specs.List.{slice_get}
 use Rattle.std.proofs.lemmas.Bool.{and_left, and_right, eq-eqb, le-leb, le-ltb, leb-true, lt-leb, lt-ltb}
+use Rattle.host_keeps_pairing.proofs.lemmas.{eqb-sym}
 use Rattle.interface.specs.declared.crossing.Crossing.TheVariants as crossing
 use Rattle.ncp_control.specs.declared.command.Command.{Command}
 use Rattle.ncp_control.specs.declared.command.Command.TheVariants as command
@@ -31,20 +32,6 @@ one_more true true false messages bits rest = both_nothing rest
 one_more true false here messages bits rest = refl
 one_more false between here messages bits rest = refl
 
-one_way : (a b : ℕ) → (a == b) ≡ true → (b == a) ≡ false → ⊥
-one_way a b e other =
-    let same : b ≡ a = sym (eqb-true a b e) in
-    let wrong : true ≡ false = sym (eq-eqb b a same) ∙ other in
-    cc
-
-turned_eq : (a b : ℕ) → (a == b) ≡ (b == a)
-turned_eq a b = by (a == b) (b == a) refl refl where
-  by : (p q : Bool) → (a == b) ≡ p → (b == a) ≡ q → (a == b) ≡ (b == a)
-  by true true e g = e ∙ sym g
-  by false false e g = e ∙ sym g
-  by true false e g = absurd (one_way a b e g)
-  by false true e g = absurd (one_way b a g e)
-
 whatever : (b : Bool) → nothing ≡ (if b then nothing else nothing)
 whatever true = refl
 whatever false = refl
@@ -62,7 +49,7 @@ grants_of_text place host peer (Legal (command.All link messages bits) ∷ order
     ap (λ (a : Amount). both (by_grant place host peer (record { link = link; messages = messages; bits = bits }) f from) a) (grants_of_text place host peer orders f from)
     ∙ one_more (nat_le from place) (same_host f.source host && same_host f.destination peer) (f.link.0 == link) messages bits (granted_in f.link.0 orders)
     ∙ ap (λ (b : Bool). if nat_le from place && (same_host f.source host && same_host f.destination peer) then (if b then more messages bits (granted_in f.link.0 orders) else granted_in f.link.0 orders) else nothing)
-    (turned_eq f.link.0 link)
+    (eqb-sym f.link.0 link)
 grants_of_text place host peer (Legal (command.Gvb link messages bits) ∷ orders) f from = grants_of_text place host peer orders f from
 grants_of_text place host peer (Legal (command.Ret link messages bits) ∷ orders) f from = grants_of_text place host peer orders f from
 grants_of_text place host peer (Legal (command.Inr link) ∷ orders) f from = grants_of_text place host peer orders f from

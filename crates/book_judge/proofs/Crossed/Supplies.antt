@@ -469,7 +469,7 @@ none_added place host peer orders a none granted h =
 
 -- ---- a crossing
 
--- what is granted may be told otherwise
+-- what is granted may be written otherwise
 pub adds_same : (place : ℕ) (was is : Grants) (old new : Allocations) → ((f : Flow) (from : ℕ) → was f from ≡ is f from)
     → Adds place was old new → Adds place is old new
 adds_same place was is old new same adds granted h =

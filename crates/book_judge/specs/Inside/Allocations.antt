@@ -139,7 +139,7 @@ pub record AreLeft (place : ℕ) (host peer : Host) (grants : List Grant) (whole
   pub same : (f : Flow) (from : ℕ) → both (by_grants place host peer grants f from) (granted f from) ≡ whole f from
   pub held : AreHeld place granted a
 
--- what octets begin with grants this, and so many of them are read by it
+-- what octets begin with grants this, and this number of them is read by it
 abbrev pub BeginsWith : List ℕ → Option Grant → ℕ → Type 0
 BeginsWith octets found read =
     (most : ℕ) → grants_in (orders_within (1 + most) octets) ≡ with_grant found (grants_in (orders_within most (drop read octets)))
