@@ -1,6 +1,7 @@
 -- The texts of all parts determine a subnet, but for its log.
 use Rattle.subnet_trace.proofs.Common.{All-head, All-tail, nat_tests, All, range_with_len, State, Flow, Noted, Standing, Net, Wire, imp_at, wire_at, most_imps, vector_of, array, member, object, Imp, Line, told}
 use Rattle.std.proofs.Common.{◌≡◌, ℕ, suc, true, nat_lt, List, [], ◌∷◌, codes, length, map, Option, Some, None, is_some, refl, sym, ap, ap₂, ◌∙◌, arith, slice_index_or}
+use Rattle.routing.proofs.lemmas.{claims-shown, vector-is}
 use Rattle.subnet.specs.Events.{is_imp, site_at}
 use Rattle.trace.proofs.lemmas.{AreClosed, Spelled, also_closed, first_same, lists_spelled, member_once, none_closed, object_closed, object_once, rest_same}
 use Rattle.subnet_trace.specs.Texts.{finite_from, frame_text, heard_text, host_object, imp_text, line_text, next_from, port_object, slot_text, kept_of, kept_part, source_part, sources_of, imp_members}
