@@ -88,7 +88,7 @@ some_name x (Some place) i = refl
 
 pub other_sends : (x : book.Life) → receives x ≡ true → ArePaired x → is_send_socket x.foreign ≡ true
 other_sends x here (inl p) = p.1
-other_sends x here (inr p) = absurd (even_odd _ here p.0)
+other_sends x here (inr p) = absurd (even_odd x.socket here p.0)
 
 module _ (hosts : Network) (moments : List Moment) (story : IsStory hosts moments) (run : IsRun hosts (events_of moments)) (mails : mail.IsRun hosts.all (crossings_of moments)) (served : AreServed hosts moments) where
   -- ---- what the law says of openings
@@ -96,7 +96,7 @@ module _ (hosts : Network) (moments : List Moment) (story : IsStory hosts moment
   safe : (a b : Host) → AreOurs hosts a b → (s : Sockets) → law.SafePartners (both (events_at s (steps a b (law_events moments))))
   safe a b ours s =
       safe_run (events_at s (steps a b (law_events moments)))
-      (run_at s (steps a b (law_events moments)) ((all_tied hosts (origin_in (crossings_of moments)) moments (are_origins 0 _ [] moments refl) story run served).tied a b ours).steps)
+      (run_at s (steps a b (law_events moments)) ((all_tied hosts (origin_in (crossings_of moments)) moments (are_origins 0 (crossings_of moments) [] moments refl) story run served).tied a b ours).steps)
 
   owns : (h p : Host) → AreOurs hosts h p → (own foreign : ℕ) → OwnOnce (openings h p own foreign moments)
   owns h p ours own foreign =
@@ -111,10 +111,10 @@ module _ (hosts : Network) (moments : List Moment) (story : IsStory hosts moment
 
   turned : (h p : Host) → AreOurs hosts h p → (own foreign : ℕ) → AreBoth (openings h p own foreign moments) (openings p h foreign own moments)
   turned h p ours own foreign =
-      by_sockets _ h p own foreign moments
-      (λ q. by_sockets (λ l. AreBoth (receiver (record { receive = own; send = foreign }) (steps h p _)).lives l) p h foreign own moments
+      by_sockets (λ l. AreBoth l (openings p h foreign own moments)) h p own foreign moments
+      (λ q. by_sockets (λ l. AreBoth (receiver (record { receive = own; send = foreign }) (steps h p (law_events moments))).lives l) p h foreign own moments
       (λ r. no_both own q.0 r.1 _) (λ r. (safe h p ours (record { receive = own; send = foreign })).both_ways.0) (λ u x y i j. absurd j))
-      (λ q. by_sockets (λ l. AreBoth (sender (record { receive = foreign; send = own }) (steps p h _)).lives l) p h foreign own moments
+      (λ q. by_sockets (λ l. AreBoth (sender (record { receive = foreign; send = own }) (steps p h (law_events moments))).lives l) p h foreign own moments
       (λ r. (safe p h (ours.1, ours.0) (record { receive = foreign; send = own })).both_ways.1) (λ r. no_both own r.0 q.1 _) (λ u x y i j. absurd j))
       (λ u x y i. absurd i)
 
@@ -130,17 +130,17 @@ module _ (hosts : Network) (moments : List Moment) (story : IsStory hosts moment
   -- ---- the lives of the book
 
   among : (none : ℕ) (h p : Host) → AreOurs hosts h p → (own foreign : ℕ) → AreAmong (with_lives (origin_or none (crossings_of moments) h p) h p own foreign (mixed_kept hosts.strange moments).book.lives []) (openings h p own foreign moments)
-  among none h p ours own foreign = lives_among hosts _ moments (are_origins none _ [] moments refl) story run mails served h p ours own foreign
+  among none h p ours own foreign = lives_among hosts (origin_or none (crossings_of moments)) moments (are_origins none (crossings_of moments) [] moments refl) story run mails served h p ours own foreign
 
   pub life_in : (none : ℕ) (x : book.Life) → AreOurs hosts x.host x.peer → Contains (mixed_kept hosts.strange moments).book.lives x → IsIn (life_of (origin_or none (crossings_of moments) x.host x.peer) x) (openings x.host x.peer x.socket x.foreign moments)
   life_in none x ours c =
-      in_among _ (with_lives (origin_or none (crossings_of moments) x.host x.peer) x.host x.peer x.socket x.foreign (mixed_kept hosts.strange moments).book.lives []) _
-      (among none x.host x.peer ours _ _) (told_in (origin_or none (crossings_of moments) x.host x.peer) x.host x.peer x.socket _ x _ c (between_itself x))
+      in_among (life_of (origin_or none (crossings_of moments) x.host x.peer) x) (with_lives (origin_or none (crossings_of moments) x.host x.peer) x.host x.peer x.socket x.foreign (mixed_kept hosts.strange moments).book.lives []) (openings x.host x.peer x.socket x.foreign moments)
+      (among none x.host x.peer ours x.socket x.foreign) (told_in (origin_or none (crossings_of moments) x.host x.peer) x.host x.peer x.socket x.foreign x (mixed_kept hosts.strange moments).book.lives c (between_itself x))
 
   -- its own request went out to its peer
   own_went : (x : book.Life) → AreOurs hosts x.host x.peer → Contains (mixed_kept hosts.strange moments).book.lives x → Went x.host x.peer x.own_stamp (crossings_of moments)
   own_went x ours c =
-      went_in x.host x.peer _ _ _ (went x.host x.peer _ _) (life_in 0 x ours c)
+      went_in x.host x.peer (crossings_of moments) (life_of (origin_or 0 (crossings_of moments) x.host x.peer) x) (openings x.host x.peer x.socket x.foreign moments) (went x.host x.peer x.socket x.foreign) (life_in 0 x ours c)
 
   -- and its partner's request came from there
   partner_went : (x : book.Life) (n : ℕ) → last_out (control_flow x.peer x.host) (before x.partner_stamp (crossings_of moments)) ≡ Some n → Went x.peer x.host n (crossings_of moments)
@@ -149,39 +149,39 @@ module _ (hosts : Network) (moments : List Moment) (story : IsStory hosts moment
   owned_once : (x y : book.Life) → AreOurs hosts x.host x.peer → AreOurs hosts y.host y.peer → AreTwo (mixed_kept hosts.strange moments).book.lives x y → own_request x ≡ own_request y → ⊥
   owned_once x y ours hers two e =
       let place : x.own_stamp ≡ y.own_stamp = ap (λ (n : Name). n.place) e in
-      let wy : Went y.host y.peer x.own_stamp (crossings_of moments) = subst (λ (n : ℕ). Went y.host y.peer n (crossings_of moments)) (sym place) (own_went y hers (two_right x y _ two)) in
-      let ends : (x.host ≡ y.host) × (x.peer ≡ y.peer) = went_once x.host x.peer y.host y.peer _ _ (own_went x ours (two_left x y _ two)) wy in
-      two_apart (origin_or 0 (crossings_of moments) x.host x.peer) x.host x.peer x.socket x.foreign (λ (l : Life). l.own) x y _ two (between_itself x)
+      let wy : Went y.host y.peer x.own_stamp (crossings_of moments) = subst (λ (n : ℕ). Went y.host y.peer n (crossings_of moments)) (sym place) (own_went y hers (two_right x y (mixed_kept hosts.strange moments).book.lives two)) in
+      let ends : (x.host ≡ y.host) × (x.peer ≡ y.peer) = went_once x.host x.peer y.host y.peer x.own_stamp (crossings_of moments) (own_went x ours (two_left x y (mixed_kept hosts.strange moments).book.lives two)) wy in
+      two_apart (origin_or 0 (crossings_of moments) x.host x.peer) x.host x.peer x.socket x.foreign (λ (l : Life). l.own) x y (mixed_kept hosts.strange moments).book.lives two (between_itself x)
       (same_ends x y ends.0 ends.1 (ap (λ (n : Name). n.own) e) (ap (λ (n : Name). n.foreign) e))
-      (once_among (λ (l : Life). l.own) _ _
-      (among 0 x.host x.peer ours _ _) (own_once _ (owns x.host x.peer ours _ _))) place
+      (once_among (λ (l : Life). l.own) (with_lives (origin_or 0 (crossings_of moments) x.host x.peer) x.host x.peer x.socket x.foreign (mixed_kept hosts.strange moments).book.lives []) (openings x.host x.peer x.socket x.foreign moments)
+      (among 0 x.host x.peer ours x.socket x.foreign) (own_once (openings x.host x.peer x.socket x.foreign moments) (owns x.host x.peer ours x.socket x.foreign))) place
 
   taken_once : (x y : book.Life) (name : Name) → AreOurs hosts x.host x.peer → AreTwo (mixed_kept hosts.strange moments).book.lives x y → partner_request (crossings_of moments) x ≡ Some name → partner_request (crossings_of moments) y ≡ Some name → ⊥
   taken_once x y name ours two ex ey =
       let nx : NamedBy x (last_out (control_flow x.peer x.host) (before x.partner_stamp (crossings_of moments))) name = named_by x _ name ex in
       let ny : NamedBy y (last_out (control_flow y.peer y.host) (before y.partner_stamp (crossings_of moments))) name = named_by y _ name ey in
-      let ends : (x.peer ≡ y.peer) × (x.host ≡ y.host) = went_once x.peer x.host y.peer y.host _ _ (partner_went x _ nx.place) (partner_went y _ ny.place) in
+      let ends : (x.peer ≡ y.peer) × (x.host ≡ y.host) = went_once x.peer x.host y.peer y.host name.place (crossings_of moments) (partner_went x name.place nx.place) (partner_went y name.place ny.place) in
       let there : last_out (control_flow x.peer x.host) (before y.partner_stamp (crossings_of moments)) ≡ Some name.place =
-      subst (λ (h : Host). last_out _ _ ≡ Some name.place) (sym ends.1)
-      (subst (λ (p : Host). last_out _ _ ≡ Some name.place) (sym ends.0) ny.place) in
-      two_apart (origin_or 0 (crossings_of moments) x.host x.peer) x.host x.peer x.socket x.foreign (λ (l : Life). l.partner) x y _ two (between_itself x)
+      subst (λ (h : Host). last_out (control_flow x.peer h) (before y.partner_stamp (crossings_of moments)) ≡ Some name.place) (sym ends.1)
+      (subst (λ (p : Host). last_out (control_flow p y.host) (before y.partner_stamp (crossings_of moments)) ≡ Some name.place) (sym ends.0) ny.place) in
+      two_apart (origin_or 0 (crossings_of moments) x.host x.peer) x.host x.peer x.socket x.foreign (λ (l : Life). l.partner) x y (mixed_kept hosts.strange moments).book.lives two (between_itself x)
       (same_ends x y ends.1 ends.0 (nx.foreign ∙ sym ny.foreign) (nx.own ∙ sym ny.own))
-      (once_among (λ (l : Life). l.partner) _ _
-      (among 0 x.host x.peer ours _ _) (partner_once _ (takes x.host x.peer ours x.socket x.foreign)))
+      (once_among (λ (l : Life). l.partner) (with_lives (origin_or 0 (crossings_of moments) x.host x.peer) x.host x.peer x.socket x.foreign (mixed_kept hosts.strange moments).book.lives []) (openings x.host x.peer x.socket x.foreign moments)
+      (among 0 x.host x.peer ours x.socket x.foreign) (partner_once (openings x.host x.peer x.socket x.foreign moments) (takes x.host x.peer ours x.socket x.foreign)))
       (ap (place_or 0) nx.place ∙ sym (ap (place_or 0) there))
 
   both_there : (x y : book.Life) → AreOurs hosts x.host x.peer → AreOurs hosts y.host y.peer → Contains (mixed_kept hosts.strange moments).book.lives x → Contains (mixed_kept hosts.strange moments).book.lives y → partner_request (crossings_of moments) x ≡ Some (own_request y) → partner_request (crossings_of moments) y ≡ Some (own_request x)
   both_there x y ours hers cx cy e =
-      let nx : NamedBy x (last_out (control_flow x.peer x.host) (before x.partner_stamp (crossings_of moments))) (own_request y) = named_by x _ _ e in
-      let ends : (x.peer ≡ y.host) × (x.host ≡ y.peer) = went_once x.peer x.host y.host y.peer _ _ (partner_went x _ nx.place) (own_went y hers cy) in
+      let nx : NamedBy x (last_out (control_flow x.peer x.host) (before x.partner_stamp (crossings_of moments))) (own_request y) = named_by x _ (own_request y) e in
+      let ends : (x.peer ≡ y.host) × (x.host ≡ y.peer) = went_once x.peer x.host y.host y.peer y.own_stamp (crossings_of moments) (partner_went x y.own_stamp nx.place) (own_went y hers cy) in
       let none : ℕ = suc x.own_stamp in
       let there : openings x.peer x.host x.foreign x.socket moments ≡ openings y.host y.peer y.socket y.foreign moments = rw (ends.0, ends.1, nx.own, nx.foreign) refl in
       let iy : IsIn (life_of (origin_or (suc x.own_stamp) (crossings_of moments) y.host y.peer) y) (openings x.peer x.host x.foreign x.socket moments) =
-      subst (λ (l : List Life). IsIn (life_of (origin_or (suc x.own_stamp) (crossings_of moments) y.host y.peer) y) l) (sym there) (life_in _ y hers cy) in
+      subst (λ (l : List Life). IsIn (life_of (origin_or (suc x.own_stamp) (crossings_of moments) y.host y.peer) y) l) (sym there) (life_in (suc x.own_stamp) y hers cy) in
       let back : place_or (suc x.own_stamp) (last_out (control_flow y.peer y.host) (before y.partner_stamp (crossings_of moments))) ≡ x.own_stamp =
-      turned x.host x.peer ours x.socket x.foreign _ _
-      (life_in _ x ours cx) iy _ in
-      let out : last_out (control_flow y.peer y.host) (before y.partner_stamp (crossings_of moments)) ≡ Some x.own_stamp = place_there _ _ back in
+      turned x.host x.peer ours x.socket x.foreign (life_of (origin_or (suc x.own_stamp) (crossings_of moments) x.host x.peer) x) (life_of (origin_or (suc x.own_stamp) (crossings_of moments) y.host y.peer) y)
+      (life_in (suc x.own_stamp) x ours cx) iy (ap (place_or (suc x.own_stamp)) nx.place) in
+      let out : last_out (control_flow y.peer y.host) (before y.partner_stamp (crossings_of moments)) ≡ Some x.own_stamp = place_there x.own_stamp (last_out (control_flow y.peer y.host) (before y.partner_stamp (crossings_of moments))) back in
       ap (named y) out
       ∙ ap (λ (n : ℕ). Some (record { place = x.own_stamp; own = n; foreign = y.socket })) (sym nx.foreign)
       ∙ ap (λ (n : ℕ). Some (record { place = x.own_stamp; own = x.socket; foreign = n })) (sym nx.own)
@@ -192,7 +192,7 @@ module _ (hosts : Network) (moments : List Moment) (story : IsStory hosts moment
       some_place _
       (ap (λ (l : Life). l.partner)
       (one_own _ _ _
-      (owns x.host x.peer ours _ _) (life_in 0 x ours c) (life_in 1 x ours c) refl))
+      (owns x.host x.peer ours x.socket x.foreign) (life_in 0 x ours c) (life_in 1 x ours c) refl))
 
   pub partner_named : (x : book.Life) → AreOurs hosts x.host x.peer → Contains (mixed_kept hosts.strange moments).book.lives x → IsSome (partner_request (crossings_of moments) x)
   partner_named x ours c = some_name x _ (partner_out x ours c)
@@ -200,8 +200,8 @@ module _ (hosts : Network) (moments : List Moment) (story : IsStory hosts moment
   -- and it went out of the host of the life whose own it is
   peers_there : (x y : book.Life) → AreOurs hosts x.host x.peer → AreOurs hosts y.host y.peer → Contains (mixed_kept hosts.strange moments).book.lives x → Contains (mixed_kept hosts.strange moments).book.lives y → partner_request (crossings_of moments) x ≡ Some (own_request y) → (x.peer ≡ y.host) × (y.peer ≡ x.host)
   peers_there x y ours hers cx cy e =
-      let nx : NamedBy x (last_out (control_flow x.peer x.host) (before x.partner_stamp (crossings_of moments))) (own_request y) = named_by x _ _ e in
-      let ends : (x.peer ≡ y.host) × (x.host ≡ y.peer) = went_once x.peer x.host y.host y.peer _ _ (partner_went x _ nx.place) (own_went y hers cy) in
+      let nx : NamedBy x (last_out (control_flow x.peer x.host) (before x.partner_stamp (crossings_of moments))) (own_request y) = named_by x _ (own_request y) e in
+      let ends : (x.peer ≡ y.host) × (x.host ≡ y.peer) = went_once x.peer x.host y.host y.peer y.own_stamp (crossings_of moments) (partner_went x y.own_stamp nx.place) (own_went y hers cy) in
       (ends.0, sym ends.1)
 
   -- of any lives of the book between hosts with programs
@@ -220,13 +220,13 @@ module _ (hosts : Network) (moments : List Moment) (story : IsStory hosts moment
   -- one of a life's sockets receives and the other sends
   pub life_paired : (x : book.Life) → AreOurs hosts x.host x.peer → Contains (mixed_kept hosts.strange moments).book.lives x → ArePaired x
   life_paired x ours c =
-      by_sockets (λ l. IsIn (life_of (origin_or 0 (crossings_of moments) x.host x.peer) x) l → ArePaired x) x.host x.peer _ _ moments
-      _ (λ q i. inr (q.1, q.0)) (λ u i. absurd i) (life_in 0 x ours c)
+      by_sockets (λ l. IsIn (life_of (origin_or 0 (crossings_of moments) x.host x.peer) x) l → ArePaired x) x.host x.peer x.socket x.foreign moments
+      (λ q i. inl q) (λ q i. inr (q.1, q.0)) (λ u i. absurd i) (life_in 0 x ours c)
 
   -- a life that receives matches whose own request it took
   pub life_matches : (x y : book.Life) → AreOurs hosts x.host x.peer → AreOurs hosts y.host y.peer → Contains (mixed_kept hosts.strange moments).book.lives x → Contains (mixed_kept hosts.strange moments).book.lives y → receives x ≡ true → partner_request (crossings_of moments) x ≡ Some (own_request y) → Match (crossings_of moments) x y
   life_matches x y ours hers cx cy here e =
-      let nx : NamedBy x (last_out (control_flow x.peer x.host) (before x.partner_stamp (crossings_of moments))) (own_request y) = named_by x _ _ e in
+      let nx : NamedBy x (last_out (control_flow x.peer x.host) (before x.partner_stamp (crossings_of moments))) (own_request y) = named_by x _ (own_request y) e in
       record {
         receiving = here;
         sending = subst (λ (n : ℕ). is_send_socket n ≡ true) nx.own (other_sends x here (life_paired x ours cx));
