@@ -48,13 +48,13 @@ module _ {C : Type 0} (seen : C → Seen) (hosts : List Host) (w : WorldState C)
   pub book_run : mail.IsRun hosts (crossings_of lawful.whole.moments)
   book_run =
       let all : mail.IsRun hosts (lawful.booked.unbooked ++ w.kept.book.crossings) = subst (λ (xs : List Crossing). mail.IsRun hosts xs) lawful.booked.book lawful.run in
-      subst (λ (xs : List Crossing). mail.IsRun hosts xs) lawful.whole.crossings (run_below hosts _ _ all)
+      subst (λ (xs : List Crossing). mail.IsRun hosts xs) lawful.whole.crossings (run_below hosts lawful.booked.unbooked w.kept.book.crossings all)
 
   book_coupled : Coupled (all_ours hosts) lawful.whole.moments
-  book_coupled = coupled hosts lawful.addresses _ book_run lawful.whole.timeline
+  book_coupled = coupled hosts lawful.addresses lawful.whole.moments book_run lawful.whole.timeline
 
   book_served : AreServed (all_ours hosts) lawful.whole.moments
-  book_served = served_in hosts _ lawful.whole.timeline
+  book_served = served_in hosts lawful.whole.moments lawful.whole.timeline
 
   pub book_lives : w.kept.book.lives ≡ (kept_in lawful.whole.moments).book.lives
   book_lives = ap (λ (k : Kept). k.book.lives) lawful.whole.kept
@@ -63,7 +63,7 @@ module _ {C : Type 0} (seen : C → Seen) (hosts : List Host) (w : WorldState C)
   world_partners =
       subst (λ (log : List Crossing). SafePartners log w.kept.book.lives) (sym lawful.whole.crossings)
       (subst (λ (lives : List Life). SafePartners (crossings_of lawful.whole.moments) lives) (sym book_lives)
-      (safe_partners hosts lawful.whole.moments book_coupled.story _ book_run book_served))
+      (safe_partners hosts lawful.whole.moments book_coupled.story book_coupled.run book_run book_served))
 
   pub world_named : (x : Life) → Contains w.kept.book.lives x → IsSome (partner_request w.kept.book.crossings x)
   world_named x there =
