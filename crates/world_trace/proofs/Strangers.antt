@@ -9,7 +9,7 @@ use Rattle.interface.specs.declared.crossing.Inbound.{Inbound}
 use Rattle.interface.specs.declared.crossing.Inbound.TheVariants as inbound
 use Rattle.interface.specs.declared.message.HostMessage.{HostMessage}
 use Rattle.net_sim.specs.Steps.{AmongGives, FetchEnds, StepGives, OutEnds, asked_at, is_strange, strange_in}
-use Rattle.net_sim.specs.World.{NoProgram}
+use Rattle.net_sim.specs.declared.event.WorldFault.TheVariants.{NoProgram}
 use Rattle.replay.specs.declared.events.ReplayFault.TheVariants as fault
 use Rattle.world_replay.specs.Output.{Shown, output}
 use Rattle.world_replay.specs.Replay.{EndsIn, EventGives, Happens, MayDo, StopsIn}

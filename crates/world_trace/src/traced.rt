@@ -138,6 +138,8 @@ fn trace_one<C: Inspect, W: Output>(
     ensures known { OnOk result (IfSome known.new (AreTextsOf C.inside.members world.new)) }
     ensures failed { TellsCannotWrite result (W.failed writer.new) }
 {
+    // for the proof only, as in `pass`
+    let _ = world.strangers();
     let mut texts = known_texts(alloc, world, known.take(), notes)?;
     let passed = pass(alloc, world, event, &mut texts, notes)?;
     print_line(world, spot, 0, &passed, writer)?;

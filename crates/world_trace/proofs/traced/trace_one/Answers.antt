@@ -1,6 +1,11 @@
-use Rattle.world_trace.proofs.Common.{shown, Calls}
-use Rattle.world_trace.proofs.Telling.{tells}
+use Rattle.world_trace.proofs.Common.{[], shown, Calls}
+use Rattle.world_trace.proofs.Telling.{event_may, tells}
 use Rattle.world_trace.proofs.traced.trace_one.Goals as goal
+
+pub returns-in_err-print_line-clause-ends : goal.returns-in_err-print_line-clause-ends
+returns-in_err-print_line-clause-ends g c =
+    let calls : Calls g.row.C.Denot = shown g.C.Carrier.calls in
+    ([], event_may calls c.args.world.now c.pass.new.world c.args.event c.in_ok-passed.passed.printed.items c.strangers.ensures.none c.in_ok-passed.ensures.passed.shows)
 
 pub returns-clause-ends : goal.returns-clause-ends
 returns-clause-ends g c =
