@@ -30,4 +30,4 @@ returns-in-Ok-clause-ends g c =
     rw c.if-raw.false (ends_as _ (record {
       prints = λ script said short h. among_prints calls c.args.carrier c.args.strangers.now some c.in-Ok.world c.in-Ok.ensures.1 script said h;
       refuses = λ script number short bad. refused calls c.args.carrier c.args.strangers.now true some script number bad;
-    }) _ _ c.answer_lines-in-Ok.result c.answer_lines-in-Ok.ensures.ends)
+    }) _ _ c.answer_lines-else-is_empty.result c.answer_lines-else-is_empty.ensures.ends)
