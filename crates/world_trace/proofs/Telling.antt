@@ -166,7 +166,7 @@ step_heard {C} calls members spot round old new e event printed parts programs s
 
 -- whatever failed after an event had happened
 pub event_may : {C : Type 0} (calls : Calls C) (old new : WorldState C) (e : Event) (printed : List ℕ) → old.strangers ≡ [] → Shows calls old (world.Happen e) new printed → MayTell calls old e new []
-event_may calls old new e printed none h = (refl, (h.1.0.outcome, alone calls old h.1.0.outcome new none e h.1.0.gives))
+event_may calls old new e printed none (shown, happens, says) = (refl, (happens.outcome, alone calls old happens.outcome new none e happens.gives))
 
 pub step_may : {C : Type 0} (calls : Calls C) (old new : WorldState C) (e : Event) (printed : List ℕ) → ShowsInCalm calls old e new printed → MayTell calls old e new []
 step_may calls old new e printed (shown, happens, says) = (refl, (happens.outcome, happens.gives))
