@@ -56,10 +56,7 @@ no_parts topology script h = elim h.lines [
 
 pub no_input : (options : Options) (left before after : Option (List ℕ))
     → EndsReplay options (sides (Some []) left false before after) (Ok tt) → ⊥
-no_input options left before after ends = elim (ends.read refl) [
-  | inl is ↦ no_parts _ _ is.2.parted
-  | inr is ↦ no_parts _ _ is.2.parted
-]
+no_input options left before after ends = no_parts _ _ (ends.read refl).2.parted
 
 none_read : (first : List ℕ) (x : ℕ) → first ++ x ∷ [] ≡ [] → ⊥
 none_read [] x e = cc
