@@ -48,6 +48,7 @@ from dorydate.model.trace import all_parts
 from dorydate.model.trace_world import state_of
 from dorydate.model.world import World
 from dorydate.sentences import DEEDS, silence
+from workshop.checks.explain_rows import NOT_OPEN, READY_PAIR
 from workshop.parts import ROOT, any_program, read_octets, text_of
 from workshop.tools import lacking, left_out
 from workshop.words import Words
@@ -87,6 +88,7 @@ WAITING = [
     f"{PAIR}server 1/1 7 100\nuser 0/1 1/1 7 16\n{6 * EACH}",
     f"{PAIR}server 1/1 7 100\nuser 0/1 1/1 7 16\n{2 * EACH}hostdown 1/1\n",
 ]
+NOT_OPEN_INPUTS = ["\n".join([READY_PAIR.rstrip(), *script, ""]) for script, _ in NOT_OPEN]
 
 
 class Wrong(Exception):
@@ -144,6 +146,13 @@ def waits_of(text: bytes) -> list[list[str]] | None:
         spelled = ["|".join([it.what, it.where, it.reason, str(it.is_bad).lower(), *it.cures]) for it in all_waits]
         found.append(sorted(re.sub(r"(?:the )?message(?: \d+)? of flow", "message", it) for it in spelled))
     return found
+
+
+def refusals_of(text: bytes) -> list[str]:
+    """What ./explain says of the last event of an input, which is refused."""
+    network, lines = input_of(text)
+    goes = Inside(of_model(network))
+    return [goes.happen(event_of(network, it)).sentences for it in lines][-1]
 
 
 def programs_of(place: object) -> dict[str, dict[str, Any] | None]:
@@ -314,6 +323,7 @@ def check_modules(command: str, program: str) -> None:
         given = {
             "states": of_examples(states_of),
             "waits": {**of_examples(waits_of), **{it: waits_of(it.encode()) for it in WAITING}},
+            "not open": {it: refusals_of(it.encode()) for it in NOT_OPEN_INPUTS},
             "lines": lines_by_chance(4000),
             "topologies": topologies_by_chance(2000),
             "deeds": told_of_deeds(),
