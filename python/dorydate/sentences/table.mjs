@@ -117,6 +117,7 @@ export const TABLE = {
 "ask": "question",
 "routes": "distances",
 "ack": "ack",
+"claims": "says 0 to all",
 "tap": "Tap a part to change it"
 },
 "exercises": {
