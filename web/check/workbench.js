@@ -2,8 +2,8 @@
  * Tries the workbench in a browser: node web/check/workbench.js PAGE [PART..] BROWSER..
  *
  * The parts are --lessons, --deeds, --sizes, --maps, --looks and --faults; without one all of them are tried. Each is
- * told when it is done, since all of them take minutes. --lessons=WORDS steps through those whose names have these
- * words, --faults=WORDS plants those that are called so.
+ * told when it is done, since all of them take minutes. --lessons=PATTERN steps through those whose names match it,
+ * --faults=WORDS plants those that are called so.
  *
  * Each lesson is stepped forth and back, parts are tapped, an address is opened again, keys and the focus are looked
  * at, and what a screen reader gets, and at each size nothing is cut and no text is on another. Faults that are
@@ -268,7 +268,7 @@ async function darkAndPaper(browser) {
  * Each lesson is stepped forth and back.
  *
  * @param {Browser} browser
- * @param {string} called words of the names of those that are, "" for all
+ * @param {string} called a pattern of the names of those that are, "" for all
  * @returns {Promise<Found>}
  */
 async function lessons(browser, called) {
@@ -276,7 +276,7 @@ async function lessons(browser, called) {
     const first = await browser.evaluate("return Math.round(performance.now());");
     const options = 'document.querySelectorAll("#lesson option")';
     const every = await browser.evaluate(`return [...${options}].map((it) => it.value);`);
-    const names = every.filter((/** @type {string} */ it) => it.includes(called));
+    const names = every.filter((/** @type {string} */ it) => RegExp(called).test(it));
     let steps = 0;
     for (const [place, name] of names.entries()) {
         if (/a-bad-line|an-unknown-event/.test(name)) continue;

@@ -371,7 +371,7 @@ def check_browsers(command: str, asked: list[str]) -> None:
 
 def main() -> int:
     words = Words(__doc__).flag("browser", "in browsers")
-    asked = words.names("part", f"{', '.join(BROWSERS)}; lessons, deeds, sizes, maps, looks, faults, or lessons=WORDS, faults=WORDS; all without one").asked()
+    asked = words.names("part", f"{', '.join(BROWSERS)}; lessons, deeds, sizes, maps, looks, faults, or lessons=PATTERN, faults=WORDS; all without one").asked()
     command, program = node(), any_program()
     if not command:
         lacking("workbench", "all of it", "Node")
