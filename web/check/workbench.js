@@ -2,7 +2,8 @@
  * Tries the workbench in a browser: node web/check/workbench.js PAGE [PART..] BROWSER..
  *
  * The parts are --lessons, --deeds, --sizes, --maps, --looks and --faults; without one all of them are tried. Each is
- * told when it is done, since all of them take minutes. --faults=WORDS plants those that are called so.
+ * told when it is done, since all of them take minutes. --lessons=PATTERN steps through those whose names match it,
+ * --faults=WORDS plants those that are called so.
  *
  * Each lesson is stepped forth and back, parts are tapped, an address is opened again, keys and the focus are looked
  * at, and what a screen reader gets, and at each size nothing is cut and no text is on another. Faults that are
@@ -267,13 +268,15 @@ async function darkAndPaper(browser) {
  * Each lesson is stepped forth and back.
  *
  * @param {Browser} browser
+ * @param {string} called a pattern of the names of those that are, "" for all
  * @returns {Promise<Found>}
  */
-async function lessons(browser) {
+async function lessons(browser, called) {
     const wrong = await trial(browser, [trials.entered]);
     const first = await browser.evaluate("return Math.round(performance.now());");
     const options = 'document.querySelectorAll("#lesson option")';
-    const names = await browser.evaluate(`return [...${options}].map((it) => it.value);`);
+    const every = await browser.evaluate(`return [...${options}].map((it) => it.value);`);
+    const names = every.filter((/** @type {string} */ it) => RegExp(called).test(it));
     let steps = 0;
     for (const [place, name] of names.entries()) {
         if (/a-bad-line|an-unknown-event/.test(name)) continue;
@@ -380,7 +383,7 @@ async function maps(browser) {
 }
 
 /** The parts of the trials that need only the page, by their names. */
-const PARTS = /** @type {{[name: string]: (browser: Browser) => Promise<Found>}} */ ({
+const PARTS = /** @type {{[name: string]: (browser: Browser, called: string) => Promise<Found>}} */ ({
     lessons,
     deeds,
     sizes,
@@ -458,7 +461,8 @@ async function planted(browser, { from, to, by, size, words }, page, file) {
  * @param {string[]} asked
  */
 async function failsIn(browser, page, asked) {
-    const is = (/** @type {string} */ name) => !asked.length || asked.includes(name);
+    const words = new Map(asked.map((it) => /** @type {[string, string]} */ (it.split(/=(.*)/s).slice(0, 2))));
+    const is = (/** @type {string} */ name) => !asked.length || words.has(name);
     let count = 0;
     /** @type {(name: string, run: () => Promise<Found>) => Promise<void>} */
     const tell = async (name, run) => {
@@ -470,21 +474,18 @@ async function failsIn(browser, page, asked) {
     await browser.resize(...WIDE);
     await browser.open(`file://${page}`);
     for (const [name, part] of Object.entries(PARTS)) {
-        if (is(name)) await tell(name, () => part(browser));
+        if (is(name)) await tell(name, () => part(browser, words.get(name) ?? ""));
     }
     const others = browser.requests().filter((it) => !/^(?:file|blob|data):/.test(it));
     if (others.length) console.log(`${browser.name}: the page asks for ${others[0]}`);
-    const planting = asked.find((it) => it.startsWith("faults")) ?? "faults=";
-    if (!asked.length || asked.includes(planting)) {
-        await tell("faults", () => faults(browser, page, planting.slice("faults=".length)));
-    }
+    if (is("faults")) await tell("faults", () => faults(browser, page, words.get("faults") ?? ""));
     return count + others.length > 0;
 }
 
 async function main() {
     const [page, ...words] = process.argv.slice(2);
     const asked = words.filter((it) => it.startsWith("--")).map((it) => it.slice(2));
-    const unknown = asked.filter((it) => !/^faults(?:=|$)/.test(it) && !(it in PARTS));
+    const unknown = asked.filter((it) => !/^(?:faults|lessons)(?:=|$)/.test(it) && !(it in PARTS));
     if (unknown.length) throw new Error(`there is no part ${unknown}: ${Object.keys(PARTS)}, faults`);
     const octets = new TextEncoder().encode(readFileSync(page, "utf8")).length;
     let failed = octets > MOST_OCTETS;

@@ -481,7 +481,7 @@ export class Workbench {
             this.map = new MapView(this.network, network, (part, element) => this.taps.tapped(part, element));
             this.topology = topology;
         }
-        drawLegend(network);
+        drawLegend(network, input);
         this.map.name(impsNamed(input.events.map((it) => it.words)));
         if (!network.sites.some((site) => site.number === this.to)) this.to = 0;
         this.talk = new Talk(this.history.replay);

@@ -63,8 +63,8 @@ function notOpen(state, [kind, host, word]) {
         if (!end) continue;
         const there = state.program(peer)?.pairs.find((it) => it.peer === host)?.ends;
         const isRefused = there?.some((it) => !it.mine && it.socket === end.foreign && it.foreign === end.socket);
-        const isClosing = end.closing.own !== "no" || end.closing.peer;
-        const why = isClosing ? "closing" : isRefused ? "refused" : end.requests.own === null ? "queued" : "asked";
+        const closing = end.closing.peer ? "closed" : end.closing.own !== "no" ? "closing" : "";
+        const why = closing || (isRefused ? "refused" : end.requests.own === null ? "queued" : "asked");
         return filled(rules[why], { host: hostName(network, host), peer: hostName(network, peer), foreign: end.foreign });
     }
     return IN_A_HOST.NotOpen;

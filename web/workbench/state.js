@@ -169,6 +169,16 @@ export class State {
     }
 
     /**
+     * Whether an IMP announces that it is at distance 0 from every IMP.
+     *
+     * @param {number} imp
+     */
+    claims(imp) {
+        const it = this.imp(imp);
+        return it !== null && this.network.sites.length > 1 && this.network.sites.every(({ number }) => it.distances[number] === 0);
+    }
+
+    /**
      * All that is alive: each packet and message, and where it is.
      *
      * @returns {Held[]}

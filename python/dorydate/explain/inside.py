@@ -13,6 +13,7 @@ from typing import Any
 
 from dorydate.explain import deeds, frames, messages
 from dorydate.explain.in_the_way import InTheWay, Parts, Sending
+from dorydate.explain.not_open import why_not_open
 from dorydate.explain.view import Sentences, View, view_of
 from dorydate.model.bits import octets
 from dorydate.model.crossings import Answered, Crossing, Passed
@@ -90,10 +91,16 @@ class Inside:
         self.place.happen(*event)
         printed = self.place.printed[lines:]
         if printed[-1:] and printed[-1].startswith("refused "):
-            sentences = [] if self.view is None else InTheWay(self.view.subnet).refusal(printed[-1].split(" ")[1], kind, parts, message)
+            sentences = self.refusal(printed[-1].split(" ")[1], kind, parts, message)
         else:
             sentences = after() if after else []
         return Told(printed, beside_lines(printed, log_of(self.place)[crossed:]), [it for it in sentences if it])
+
+    def refusal(self, name: str, kind: str, parts: Parts, message: Sending | None) -> list[str]:
+        """Why the event was refused; nothing where only the host's program could say it."""
+        if name == "NotOpen" and isinstance(self.place, World):
+            return [why_not_open(self.place, kind, parts)]
+        return [] if self.view is None else InTheWay(self.view.subnet).refusal(name, kind, parts, message)
 
     def look(self, kind: str, parts: Parts, message: Sending | None) -> Sentences | None:
         """What will be said of an event, looked at before it happens."""

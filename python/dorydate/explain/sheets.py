@@ -18,7 +18,7 @@ STYLE = """body{font:11pt/1.4 system-ui,sans-serif;margin:2rem auto;max-width:60
 table{border-collapse:collapse;width:100%}
 td{padding:.25rem .6rem .25rem 0;border-bottom:1px solid #dedbd2;vertical-align:top}
 code{font:10pt ui-monospace,monospace}.note td{font-style:italic;padding-top:.6rem}
-.blank td{height:3em;border-bottom:1px dotted #555}
+.blank td{height:3em;border-bottom:1px dotted #555}.open td{height:2.2em}
 .reply td{font-weight:600}.name{border-bottom:1px dotted #555;max-width:20rem}tr{break-inside:avoid}"""
 SLIDES = """body{margin:0;font-family:system-ui,sans-serif;color:#161a20}
 html{scroll-snap-type:y mandatory}section{scroll-snap-align:start}
@@ -61,7 +61,8 @@ def rows_of(given: Input, told: dict[int, list[str]], with_answers: bool) -> Ite
         kind, words = text[:2], text.lstrip("#?! ")
         if number in told:
             said = escape(" ".join(told[number])) if is_open else ""
-            yield f"<tr><td>{number}</td><td><code>{escape(text)}</code></td><td>{said}</td></tr>"
+            start = "<tr>" if said else '<tr class="open">'  # with room to write it in
+            yield f"{start}<td>{number}</td><td><code>{escape(text)}</code></td><td>{said}</td></tr>"
         elif kind == "#?":
             is_open = with_answers
             yield note_row("note", words)

@@ -117,6 +117,7 @@ export const TABLE = {
 "ask": "question",
 "routes": "distances",
 "ack": "ack",
+"claims": "says 0 to all",
 "tap": "Tap a part to change it"
 },
 "exercises": {
@@ -355,7 +356,8 @@ export const TABLE = {
 "not open": {
 "type": "No user on this host has come to a terminal, so there is nothing to type a line at.",
 "refused": "The connection won't open: {peer} refuses it, as nobody listened on its socket {foreign}.",
-"closing": "The connection isn't open any more: a CLS of {host} is queued or out, or that of {peer} has come.",
+"closed": "The connection is closing: the CLS of {peer} has come.",
+"closing": "The connection is closing: a CLS of {host} is queued or out.",
 "asked": "The connection isn't open yet: the request of {peer} for it hasn't come.",
 "queued": "The connection isn't open yet: the request of {host} for it hasn't gone out."
 },

@@ -23,7 +23,7 @@ from dorydate.model.subnet import Subnet
 from dorydate.model.topology import Topology, spelled
 from dorydate.program import Program
 from workshop.checks.explain_given import Wrong, events_of, example, line_of, same, told
-from workshop.checks.explain_rows import DRAWN, INSIDES, LOST, PLAIN_PAIR, RAW_PAIR, REPEAT, STALLS, TEXTS, THROWN_AWAY
+from workshop.checks.explain_rows import DRAWN, INSIDES, LOST, NOT_OPEN, PLAIN_PAIR, RAW_PAIR, READY_PAIR, REPEAT, STALLS, TEXTS, THROWN_AWAY
 
 PAIR = Topology("subnet", True, [(1, 1), (2, 1)], [(1, 2)])
 
@@ -36,6 +36,9 @@ def check_rows(program: Program) -> None:
         after = lines[at + 1 :]
         end = next((k for k, line in enumerate(after) if not line.startswith("    ")), len(after))
         same(words in " ".join(after[:end]), True, f"{name}, line {number}: {after[:end]}")
+    for script, words in NOT_OPEN:
+        last = told(Input(f"{READY_PAIR}{chr(10).join(script)}\n".encode()), program)[-3:]
+        same(("refused NotOpen" in last[0], words in last[1]), (True, True), f"{script}: {last}")
     for name, is_short, arrow in DRAWN:
         picture = drawn(example(name), replay(example(name), program), short_chart if is_short else chart)
         same(f"    {arrow}" in picture.splitlines(), True, f"the chart of {name} has {arrow}")

@@ -126,5 +126,18 @@ STALLS: list[tuple[str, list[str], str | None]] = [
     ("raw", ["out 0/1 0/2 5 8 41", "calm 9"], None),
     ("raw", ["calm 9"], None),
 ]
-PLAIN_PAIR = 'carrier = "plain"\n[[imp]]\nid = 1\nhosts = 2\n%\ncontact 0/1 1/1\ncalm 3\nlisten 1/1 33 8\nopenrecv 0/1 1/1 16 33\ncalm 2\n'
+READY_PAIR = 'carrier = "plain"\n[[imp]]\nid = 1\nhosts = 2\n%\ncontact 0/1 1/1\ncalm 3\n'
+PLAIN_PAIR = f"{READY_PAIR}listen 1/1 33 8\nopenrecv 0/1 1/1 16 33\ncalm 2\n"
 RAW_PAIR = "raw = true\n[[imp]]\nid = 1\nhosts = 1\n[[imp]]\nid = 2\nhosts = 1\n[[line]]\na = 1\nb = 2\n%\ncalm 1\n"
+
+# scripts of two ready hosts at one IMP over plain mailboxes, whose last event is refused as NotOpen, and words of the cause
+NOT_OPEN: list[tuple[list[str], str]] = [
+    (["type 0/1 HELLO"], "No user on this host has come to a terminal"),
+    (["openrecv 0/1 1/1 16 33", "grant 0/1 16 1 8"], "the request of host 0/1 for it hasn't gone out"),
+    (["listen 0/1 33 8", "openrecv 1/1 0/1 16 33", "grant 1/1 16 1 8"], "the request of host 1/1 for it hasn't gone out"),
+    (["listen 1/1 33 8", "openrecv 0/1 1/1 16 33", "offer 0/1", "grant 0/1 16 1 8"], "the request of host 1/1 for it hasn't come"),
+    (["openrecv 0/1 1/1 16 33", "offer 0/1", "take 1/1", "grant 0/1 16 1 8"], "host 1/1 refuses it, as nobody listened on its socket 33"),
+    (["openrecv 0/1 1/1 16 33", "close 0/1 16", "grant 0/1 16 1 8"], "a CLS of host 0/1 is queued or out"),
+    (["listen 1/1 33 8", "openrecv 0/1 1/1 16 33", "calm 2", "close 0/1 16", "grant 0/1 16 1 8"], "a CLS of host 0/1 is queued or out"),
+    (["listen 1/1 33 8", "openrecv 0/1 1/1 16 33", "calm 2", "close 1/1 33", "offer 1/1", "take 0/1", "grant 0/1 16 1 8"], "the CLS of host 1/1 has come"),
+]

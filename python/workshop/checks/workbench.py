@@ -15,7 +15,8 @@ proved and has one):
 TypeScript (`node-typescript`) checks the types where it is there. With --browser the page of `./build --wasm`, or
 that of the released module where it is of these sources, is opened in Chromium, Firefox and WebKit (Debian's packages
 `chromium`, `firefox-esr`, and `webkit2gtk-driver` with `xvfb`), as many of them as there are: each lesson is stepped
-forth and back, parts are tapped, sizes measured, planted faults found. Selenium isn't used, since Debian 12 has no
+forth and back, parts are tapped, sizes measured, planted faults found. Of a whole run each browser takes ten minutes of
+the processor, so it may be tried in parts: --browser firefox maps looks. Selenium isn't used, since Debian 12 has no
 geckodriver, without which it drives no Firefox: web/check/browser.js speaks each browser's own protocol.
 """
 
@@ -48,6 +49,7 @@ from dorydate.model.trace import all_parts
 from dorydate.model.trace_world import state_of
 from dorydate.model.world import World
 from dorydate.sentences import DEEDS, silence
+from workshop.checks.explain_rows import NOT_OPEN, READY_PAIR
 from workshop.parts import ROOT, any_program, read_octets, text_of
 from workshop.tools import lacking, left_out
 from workshop.words import Words
@@ -87,6 +89,7 @@ WAITING = [
     f"{PAIR}server 1/1 7 100\nuser 0/1 1/1 7 16\n{6 * EACH}",
     f"{PAIR}server 1/1 7 100\nuser 0/1 1/1 7 16\n{2 * EACH}hostdown 1/1\n",
 ]
+NOT_OPEN_INPUTS = ["\n".join([READY_PAIR.rstrip(), *script, ""]) for script, _ in NOT_OPEN]
 
 
 class Wrong(Exception):
@@ -144,6 +147,13 @@ def waits_of(text: bytes) -> list[list[str]] | None:
         spelled = ["|".join([it.what, it.where, it.reason, str(it.is_bad).lower(), *it.cures]) for it in all_waits]
         found.append(sorted(re.sub(r"(?:the )?message(?: \d+)? of flow", "message", it) for it in spelled))
     return found
+
+
+def refusals_of(text: bytes) -> list[str]:
+    """What ./explain says of the last event of an input, which is refused."""
+    network, lines = input_of(text)
+    goes = Inside(of_model(network))
+    return [goes.happen(event_of(network, it)).sentences for it in lines][-1]
 
 
 def programs_of(place: object) -> dict[str, dict[str, Any] | None]:
@@ -314,6 +324,7 @@ def check_modules(command: str, program: str) -> None:
         given = {
             "states": of_examples(states_of),
             "waits": {**of_examples(waits_of), **{it: waits_of(it.encode()) for it in WAITING}},
+            "not open": {it: refusals_of(it.encode()) for it in NOT_OPEN_INPUTS},
             "lines": lines_by_chance(4000),
             "topologies": topologies_by_chance(2000),
             "deeds": told_of_deeds(),
@@ -337,8 +348,15 @@ def failures(told: str) -> str:
     return "\n".join(line for at, line in enumerate(lines) if any("not ok" in it for it in lines[max(0, at - 14) : at + 1]))[:4000]
 
 
-def check_browsers(command: str) -> None:
-    known = [("chromium", "chromium-browser", "google-chrome"), ("firefox", "firefox-esr"), ("WebKitWebDriver",) if shutil.which("Xvfb") else ()]
+# of each browser the names of its programs
+BROWSERS = {"chromium": ("chromium", "chromium-browser", "google-chrome"), "firefox": ("firefox", "firefox-esr"), "webkit": ("WebKitWebDriver",)}
+
+
+def check_browsers(command: str, asked: list[str]) -> None:
+    """The page in the browsers that are there and asked for, and the parts that are."""
+    names = [it for it in asked if it in BROWSERS] or [*BROWSERS]
+    parts = [f"--{it}" for it in asked if it not in BROWSERS]
+    known = [BROWSERS[it] for it in names if it != "webkit" or shutil.which("Xvfb")]
     browsers = [found[0] for names in known if (found := [path for name in names if (path := shutil.which(name))])]
     if not browsers:
         left_out("workbench", "the page in a browser", "neither Chromium, Firefox nor WebKit is installed")
@@ -347,12 +365,13 @@ def check_browsers(command: str) -> None:
     if made.returncode:
         raise Wrong("tools/keep-wasm made no page")
     page = made.stdout.strip().splitlines()[-1]
-    if subprocess.run([command, f"{ROOT}/web/check/workbench.js", page, *browsers]).returncode:
+    if subprocess.run([command, f"{ROOT}/web/check/workbench.js", page, *parts, *browsers]).returncode:
         raise Wrong("the page in a browser")
 
 
 def main() -> int:
-    in_browsers = Words(__doc__).flag("browser", "also in browsers").asked().browser
+    words = Words(__doc__).flag("browser", "in browsers")
+    asked = words.names("part", f"{', '.join(BROWSERS)}; lessons, deeds, sizes, maps, looks, faults, or lessons=PATTERN, faults=WORDS; all without one").asked()
     command, program = node(), any_program()
     if not command:
         lacking("workbench", "all of it", "Node")
@@ -360,10 +379,11 @@ def main() -> int:
     if not program:
         return 1
     try:
-        check_types()
-        check_modules(command, fastest(program))
-        if in_browsers:
-            check_browsers(command)
+        if not asked.part:
+            check_types()
+            check_modules(command, fastest(program))
+        if asked.browser or asked.part:
+            check_browsers(command, asked.part)
     except Wrong as what:
         print(f"check workbench: {what}")
         return 1

@@ -20,7 +20,7 @@ export const program = path.endsWith(".wasm") ? moduleRunner(path) : nativeRunne
 export const { run } = program;
 
 /** Time for a program that was built without proofs. */
-export const PATIENT = { seconds: 120, octets: 40_000_000 };
+export const PATIENT = { seconds: 1_200, octets: 40_000_000 };
 
 /** The names of all examples. */
 export function exampleNames() {

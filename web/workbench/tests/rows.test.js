@@ -1,6 +1,7 @@
 /** Rows written by hand: what waits, what is wrong with a line, what is told of a text, and addresses. */
 
 import assert from "node:assert/strict";
+import { readFileSync } from "node:fs";
 import { test } from "node:test";
 
 import { faultOf, wrongLine } from "../faults.js";
@@ -188,21 +189,16 @@ test("each refusal has its own cause", async () => {
     }
 });
 
-/** Scripts of hosts with programs whose last event is refused as not open, and words of the cause. */
-const NOT_OPEN = /** @type {[string[], string][]} */ ([
-    [["type 0/1 HELLO"], "No user on this host has come to a terminal"],
-    [["openrecv 0/1 0/2 16 33", "grant 0/1 16 1 8"], "the request of host 0/1 for it hasn't gone out"],
-    [["listen 0/2 33 8", "openrecv 0/1 0/2 16 33", "calm 2", "grant 0/1 16 1 8"], "the request of host 0/2 for it hasn't come"],
-    [["openrecv 0/1 0/2 16 33", "calm 2", "grant 0/1 16 1 8"], "host 0/2 refuses it, as nobody listened on its socket 33"],
-    [["openrecv 0/1 0/2 16 33", "close 0/1 16", "grant 0/1 16 1 8"], "a CLS of host 0/1 is queued or out"],
-]);
+/** @type {{[input: string]: string[]}} of inputs whose last event is refused as NotOpen what ./explain says of it, as `./check workbench` gives it */
+const notOpen = process.env.STATES ? JSON.parse(readFileSync(process.env.STATES, "utf8"))["not open"] : {};
 
-test("a connection that isn't open is said to be what it is", async () => {
-    for (const [script, words] of NOT_OPEN) {
-        const history = await historyOfText(programs(["calm 2", "contact 0/1 0/2", "calm 20", ...script]));
-        const sentence = sentenceOf(history, history.length - 1);
-        assert(sentence.startsWith("Refused: ") && sentence.includes(words), `${script}: ${sentence}`);
+test("of a connection that isn't open it is said what ./explain says", async () => {
+    const found = Object.entries(notOpen);
+    for (const [input, told] of found) {
+        const history = await historyOfText(input);
+        assert.equal(sentenceOf(history, history.length - 1), ["Refused:", ...told].join(" "), input);
     }
+    assert(!process.env.STATES || found.length > 7, String(found.length));
 });
 
 /** A line, and words of the fault that is meant. */

@@ -118,3 +118,15 @@ test("an IMP that sends over another line says to where", async () => {
     const over = said.filter((it) => /It now sends/.test(it));
     assert(over.length > 0 && over.every((it) => /to IMP \d.* by way of IMP \d\.$/.test(it)), over.join("\n"));
 });
+
+test("an IMP that claims to be near all does so from its claim until it stops", async () => {
+    const history = await example("harvard-tells-lies");
+    const { moments } = history.replay;
+    const at = (/** @type {string} */ event) => moments.findIndex((it) => it.words.join(" ") === event);
+    const [claimed, stopped] = [at("claim 9"), at("impdown 9")];
+    assert(0 < claimed && claimed < stopped, `${claimed} ${stopped}`);
+    for (const position of [claimed, claimed + 1, stopped, stopped + 1]) {
+        const claims = history.at(position).network.sites.map((it) => it.number).filter((it) => history.at(position).claims(it));
+        assert.deepEqual(claims, position > claimed && position <= stopped ? [9] : [], `after ${position} moments`);
+    }
+});

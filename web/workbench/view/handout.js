@@ -115,6 +115,8 @@ function noteRows({ kind, text }, paper) {
 }
 
 /**
+ * A line of the script; one of which nothing is said has room to write that in.
+ *
  * @param {string} number
  * @param {string} words
  * @param {string} sentence
@@ -122,5 +124,5 @@ function noteRows({ kind, text }, paper) {
 function row(number, words, sentence) {
     const told = h("td");
     sayWithCode(told, sentence);
-    return h("tr", {}, h("td", {}, number), h("td", {}, words), told);
+    return h("tr", sentence ? {} : { class: "open" }, h("td", {}, number), h("td", {}, words), told);
 }

@@ -20,6 +20,7 @@ const TERMS = /** @type {{[sign: string]: string}} */ ({
     "ask": "question",
     "routes": "distance",
     "ack": "acknowledgement",
+    "claims": "distance",
 });
 const OF_PLAIN = ["arcs", "arcs taken", "number"];
 const OF_SUBNET = ["data", "rfnm", "dead", "ask", "routes", "ack"];
@@ -28,9 +29,14 @@ const OF_SUBNET = ["data", "rfnm", "dead", "ask", "routes", "ack"];
  * Fills the legend.
  *
  * @param {Network} network
+ * @param {import("../script.js").Input} input
  */
-export function drawLegend(network) {
-    const signs = [...(network.plain ? OF_PLAIN : OF_SUBNET), ...(network.strangers.length ? ["ring"] : [])];
+export function drawLegend(network, { events }) {
+    const further = [
+        ...(network.strangers.length ? ["ring"] : []),
+        ...(events.some(({ words }) => words[0] === "claim") ? ["claims"] : []),
+    ];
+    const signs = [...(network.plain ? OF_PLAIN : OF_SUBNET), ...further];
     byId("legend").replaceChildren(...signs.map((it) => termOf(TERMS[it], signOf(it), WORDS[it])), h("span", {}, WORDS.tap));
 }
 
@@ -41,6 +47,7 @@ export function drawLegend(network) {
 function signOf(sign) {
     const box = { viewBox: "-10 -10 20 20", class: `key ${sign}`, "aria-hidden": "true" };
     if (sign.startsWith("arcs")) return s("svg", box, s("path", { class: "sign", d: sign === "arcs" ? "M-9 5 Q0 -9 9 5" : "M-9 6 Q0 -8 9 6" }));
+    if (sign === "claims") return s("svg", box, s("rect", { x: -8, y: -5, width: 16, height: 10, rx: 2 }));
     if (sign === "ring") return s("svg", box, s("circle", { r: 7 }));
     if (sign === "number") return s("svg", box, s("circle", { r: 7 }));
     return legendSign(sign);

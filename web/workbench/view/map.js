@@ -624,6 +624,8 @@ export class MapView {
             element.classList.toggle("down", !isUp);
             element.classList.toggle("chosen", to === number);
             element.classList.toggle("nowhere", distance === FAR);
+            const claims = !this.network.plain && state.claims(number);
+            element.classList.toggle("claims", claims);
             const title = element.querySelector(".title");
             set(element, { "data-shade": distance < 0 || distance === FAR ? null : Math.min(8, distance) });
             const held = !this.network.plain ? state.heldBy(number).length : 0;
@@ -639,7 +641,8 @@ export class MapView {
                 const up = below.textContent ? 0.55 * letters * this.layout.unit : 0;
                 if (title && isDouble) set(title, { y: this.imp(number).y + 0.35 * letters * this.layout.unit - up });
             }
-            const told = distance < 0 ? "" : distance === FAR ? ", no route" : `, distance ${distance}`;
+            const way = distance < 0 ? "" : distance === FAR ? ", no route" : `, distance ${distance}`;
+            const told = `${way}${claims ? ", says that it is at distance 0 from all" : ""}`;
             label(
                 element,
                 `${siteName(this.network, number)}${isUp ? "" : ", down"}${told}${held ? `, holds ${held}` : ""}`,

@@ -127,8 +127,8 @@ export class Panes {
         say(
             this.intro,
             network.sites.length <= 9
-                ? "The distances that each IMP computes. Choose a column to colour the map."
-                : "The distances that each IMP computes. Tap an IMP on the map to choose another one.",
+                ? "The distances that each IMP announces. Choose a column to colour the map."
+                : "The distances that each IMP announces. Tap an IMP on the map to choose another one.",
         );
         const changed = before ? changedWays(before, state) : new Set();
         let table = this.body.querySelector("table.distances");

@@ -68,12 +68,13 @@ export async function slidesOf(runner, examples) {
  * @param {string} answer
  */
 function slidesOfLesson(title, time, history, question, answer) {
-    const kicker = (/** @type {string} */ what) => h("p", { class: "kicker" }, [title, what].filter(Boolean).join(" · "));
+    const said = (/** @type {string} */ words) => h("p", { class: "kicker" }, words);
+    const kicker = (/** @type {string} */ what) => said([title, what].filter(Boolean).join(" · "));
     const slide = (/** @type {(Node | string)[]} */ ...parts) => h("section", { class: "slide" }, ...parts);
     const told = history ? sentencesOf(history) : [];
     const map = (/** @type {number} */ at) => (history ? [mapAt(history, at, ROOM)] : []);
     return [
-        ...(history ? [slide(kicker(time), h("h2", {}, title), h("p", {}, brief(headComment(history.replay.input))), ...map(0))] : []),
+        ...(history ? [slide(said(time), h("h2", {}, title), h("p", {}, brief(headComment(history.replay.input))), ...map(0))] : []),
         slide(kicker(WORDS.question), h("p", { class: "big" }, question), ...map(0)),
         ...(told.length ? [slide(kicker(WORDS["what happens"]), h("ul", {}, ...told))] : []),
         slide(kicker(WORDS.answer), h("p", { class: "big" }, question), h("p", {}, answer), ...map(history?.length ?? 0)),
