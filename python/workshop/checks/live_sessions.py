@@ -18,7 +18,8 @@ from dorydate.network import Host, Imp, Line, Network
 from dorydate.program import Program
 from workshop.parts import ROOT
 
-BEGINS = 60.0  # seconds in which a session has to listen
+LISTENS = 300.0  # seconds in which a session has to listen, on a machine that has much else to do
+ENDS = 60.0  # and in which it has to end when it is asked to
 LIMIT = "60"  # seconds for a host's dialogue
 LINES = ("HELLO", "A SECOND LINE")
 Process: TypeAlias = "subprocess.Popen[str]"
@@ -73,14 +74,17 @@ class Running:
         self.process = self.begun("--record", str(self.folder))
 
     def begun(self, *words: str) -> Process:
-        """A process with the session, once it listens."""
+        """A process with the session, once it listens. TimeoutError where it never does."""
         said = self.folder.with_suffix(".said")
         with open(said, "a", encoding="utf-8") as errors:
             at = errors.tell()
             command = [sys.executable, "-B", "-m", "dorydate", "live", *self.asked, *words]
             process = subprocess.Popen(command, stderr=errors, env=self.room.env(), text=True)
-        ends = time.monotonic() + BEGINS
-        while "listens at" not in said.read_text()[at:] and process.poll() is None and time.monotonic() < ends:
+        ends = time.monotonic() + LISTENS
+        while "listens at" not in said.read_text()[at:] and process.poll() is None:
+            if time.monotonic() > ends:
+                process.kill()  # an interrupt may be ignored until it listens
+                raise TimeoutError(f"{self.folder.name}: the session doesn't listen after {LISTENS:g} seconds")
             time.sleep(0.02)
         return process
 
@@ -93,7 +97,7 @@ class Running:
     def end(self) -> None:
         if self.process.poll() is None:
             self.process.send_signal(signal.SIGINT)
-        self.process.wait(timeout=BEGINS)
+        self.process.wait(timeout=ENDS)
 
     def faults(self) -> Iterator[str]:
         """What is wrong with its record."""
