@@ -48,7 +48,7 @@ impl<C: Carrier> Hosted for World<C> {
     }
 
     fn run(&mut self, events: Vec<Event>) -> Result<(), WorldFault> {
-        World::run(self, &events)
+        World::run(self, events)
     }
 
     fn calm(&mut self, rounds: u32) -> Result<(), WorldFault> {
