@@ -181,6 +181,8 @@ def different_line(found: str, owed: str) -> str:
 PASSED = b"out 0/1 0/2 5 24 414243\nin 0/1 0/2 5 24 414243\nanswer rfnm 0/1 0/2 5\n"
 TIMES = 520_000
 CONNECTIONS = 35_000  # of a log with a life at each end of each
+CROSSED = 12  # crossings of each of them
+GRANT = "104 00080008000405000100000010"  # ALL of link 5: one message, 16 bits
 HOSTS = [f"{host}/{imp}" for imp in range(1, 64) for host in range(4)]
 
 
@@ -189,9 +191,10 @@ def log_of_lives(count: int) -> bytes:
     crossings, lives, handed = [], [], []
     for at in range(count):
         one, other = HOSTS[at % 252], HOSTS[(at + 1 + at // 252 % 251) % 252]
-        even, odd, place = 2 * at + 16, 2 * at + 17, 9 * at
+        even, odd, place = 2 * at + 16, 2 * at + 17, CROSSED * at
         rts, request = f"120 0008000A0001{even:08X}{odd:08X}05", f"120 0008000A0002{odd:08X}{even:08X}08"
-        for flow, text in ((f"{one} {other} 0", rts), (f"{other} {one} 0", request), (f"{other} {one} 5", "56 00080002004849")):
+        data = f"{other} {one} 5", "56 00080002004849"
+        for flow, text in ((f"{one} {other} 0", rts), (f"{other} {one} 0", request), (f"{one} {other} 0", GRANT), data):
             crossings += [f"out {flow} {text}", f"in {flow} {text}", f"answer rfnm {flow}"]
         lives.append(f"life {one} {even} {other} {odd} {place} {place + 4} receive 1 16 1 16 0 0 open 4849")
         lives.append(f"life {other} {odd} {one} {even} {place + 3} {place + 1} send 1 16 0 0 0 0 open 4849")
@@ -216,15 +219,15 @@ def log_of_commands(count: int, closed: bool) -> bytes:
     if closed:
         (one, other), even, odd = pairs[-1], f"{2 * count + 14:08X}", f"{2 * count + 15:08X}"
         commands += [(one, other, f"112 000800090003{even}{odd}"), (other, one, f"112 000800090003{odd}{even}")]
-    crossings = lines[: 9 * count]
+    crossings = lines[: CROSSED * count]
     for one, other, text in commands:
         crossings += [f"out {one} {other} 0 {text}", f"in {one} {other} 0 {text}", f"answer rfnm {one} {other} 0"]
-    return "\n".join([*crossings, *lines[9 * count :], "end", ""]).encode()
+    return "\n".join([*crossings, *lines[CROSSED * count :], "end", ""]).encode()
 
 
 def named_last(count: int) -> End:
     """What is said of a log of this many connections, of which the last is over by both CLS and said to be open."""
-    return 4, f"broken fates line {9 * count + 3 * count + 6 + 2 * count - 1}\nsafe\n", ""
+    return 4, f"broken fates line {CROSSED * count + 3 * count + 6 + 2 * count - 1}\nsafe\n", ""
 
 
 def check_long() -> list[str]:
