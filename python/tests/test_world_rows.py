@@ -5,6 +5,8 @@ from __future__ import annotations
 import random
 import unittest
 
+from dorydate.model.verdict import Judge
+from workshop.checks.audit import GRANT, log_of_lives
 from workshop.checks.readings import Unread
 from workshop.checks.world_chance import calls_of, changed, rows_of
 from workshop.checks.world_rows import fault_of, open_program, open_world, said_of, text_of, with_changes
@@ -12,6 +14,7 @@ from workshop.rows import blocks_of
 
 LOG = ["out 0/1 0/2 5 8 A5", "in 0/1 0/2 5 8 A5", "answer rfnm 0/1 0/2 5", "end"]
 LIFE = "life 0/1 16 0/2 33 0 1 receive 0 0 0 0 0 0 open -"
+NOP = "48 000800010000"
 INPUT = 'program carrier = "plain" ; raw = true ; [[imp]] ; id = 1 ; hosts = 1 ; % ; hostdown 0/1'
 
 
@@ -82,6 +85,11 @@ class Audits(unittest.TestCase):
             ("4", "bad line 4"),
         ):
             self.assertEqual(said_of(with_changes(LOG, [change])), wanted, change)
+
+    def test_a_safe_book_may_have_no_alls(self) -> None:
+        text = log_of_lives(1).decode().replace(GRANT, NOP)
+        self.assertEqual(Judge().says(text.encode()), "broken grants line 14")
+        self.assertEqual(said_of(text.splitlines()), "kept")
 
 
 class Replays(unittest.TestCase):

@@ -7,6 +7,8 @@ import re
 from collections.abc import Sequence
 from typing import Any
 
+from dorydate.model.audit import Log
+from dorydate.model.book import Life
 from dorydate.model.boxes import Boxes
 from dorydate.model.crossings import spell_crossing
 from dorydate.model.inputs import ends
@@ -164,13 +166,20 @@ def with_changes(lines: Sequence[str], changes: Sequence[str]) -> list[str]:
     return now
 
 
+class OfSafeBooks(Judge):
+    """Says of grants what a safe book has: what lives granted, and nothing of the ALLs that crossed."""
+
+    def is_within(self, log: Log, life: Life) -> bool:
+        return True
+
+
 def said_of(lines: Sequence[str]) -> str:
     """What an audit says of a log, and where it shows."""
     try:
         book = LogReader().read_log("".join(f"{line}\n" for line in lines).encode("latin-1"))
     except BadLog as bad:
         return f"bad line {bad}"
-    book, judge = book._replace(strangers=()), Judge()
+    book, judge = book._replace(strangers=()), OfSafeBooks()
     if said := judge.of_form(book):
         return f"malformed, {places_in(book, said)}"
     found = [judge.of_messages(book), *(judge.of_part(part, book) for part in ABOUT_LIVES)]
