@@ -50,7 +50,7 @@ class Events(unittest.TestCase):
 
     def test_groups(self) -> None:
         self.assertEqual(words_of("carrier"), ("giveup", "hostdown", "hostup"))
-        self.assertEqual((len(OF_CARRIERS), len(OF_SUBNETS)), (15, 12))
+        self.assertEqual((len(OF_CARRIERS), len(OF_SUBNETS)), (16, 13))
         self.assertEqual({*OF_RAW} - {*OF_WORLDS}, {"out"})
         self.assertEqual(EVENTS["abandon"].at, "D")
         self.assertEqual(EVENTS["ask"].at, "S")
