@@ -131,6 +131,8 @@ class OfWords(unittest.TestCase):
         "drop": "nl",
         "slice_get": "ln",
         "slice_index_or": "lnn",
+        "slice_split": "tl",
+        "bytes_eq": "ll",
         "list_any": "tl",
         "list_all": "tl",
         "map": "fl",

@@ -61,6 +61,17 @@ def made(pairs: Pairs) -> Value:
     return data("map", listed(tupled(it) for it in sorted(dict(pairs).items(), key=lambda it: rank(it[0]))))
 
 
+def split(test: Value, values: Value) -> Value:
+    """The parts of a list between the elements for which a test holds: one more than there are such elements."""
+    parts: list[list[Value]] = [[]]
+    for it in items_of(values):
+        if holds(test, it):
+            parts.append([])
+        else:
+            parts[-1].append(it)
+    return listed([listed(part) for part in parts])
+
+
 NATIVE: dict[str, Value] = {
     "nat_lt": Lambda(2, lambda a, b: truth(number(a) < number(b))),
     "nat_le": Lambda(2, lambda a, b: truth(number(a) <= number(b))),
@@ -73,6 +84,8 @@ NATIVE: dict[str, Value] = {
     "drop": Lambda(2, drop),
     "slice_get": Lambda(2, slice_get),
     "slice_index_or": Lambda(3, slice_index_or),
+    "slice_split": Lambda(2, split),
+    "bytes_eq": Lambda(2, lambda a, b: truth([*items_of(a)] == [*items_of(b)])),
     "list_any": Lambda(2, lambda test, values: truth(any(holds(test, it) for it in items_of(values)))),
     "list_all": Lambda(2, lambda test, values: truth(all(holds(test, it) for it in items_of(values)))),
     "map": Lambda(2, lambda function, values: listed([applied(function, (it,)) for it in items_of(values)])),
