@@ -115,7 +115,7 @@ fn of_world<C: Carrier>(alloc: Global, carrier: C, script: &str) -> Option<Seen>
         let done = world.step(event);
         if done == Err(WorldFault::Carrier(CarrierFault::OutOfMemory)) || done == Err(WorldFault::Program(NcpFault::OutOfMemory)) {
             let same = told(alloc, &world.book())?.as_str() == before.as_str();
-            return Some(if !same { Seen::Changed } else if is_stopped(&mut world)? { Seen::Stopped } else { Seen::GoesOn });
+            return Some(if !same { Seen::Changed } else if is_stopped(alloc, &mut world)? { Seen::Stopped } else { Seen::GoesOn });
         }
         let now = sizes_of(&world.book());
         if is_asked || now != sizes {
@@ -184,7 +184,7 @@ fn tell_bits(bits: &BitLog, text: &mut String) -> Option<()> {
 }
 
 /// Whether a world refuses its calls as stopped.
-fn is_stopped<C: Carrier>(world: &mut World<C>) -> Option<bool> {
+fn is_stopped<C: Carrier>(alloc: Global, world: &mut World<C>) -> Option<bool> {
     let (host, peer) = (first()?, second()?);
     let answers = [
         world.step(Event::Quiet),
@@ -192,7 +192,7 @@ fn is_stopped<C: Carrier>(world: &mut World<C>) -> Option<bool> {
         world.step(Event::Offer(host)),
         world.step(Event::Ask(host, Request::Contact { peer })),
         world.step(Event::Net(NetEvent::HostDown(peer))),
-        world.run(&[]),
+        world.run(Vec::new(alloc)),
         world.calm(0),
     ];
     Some(answers.iter().all(|it| *it == Err(WorldFault::Carrier(CarrierFault::Stopped))))
