@@ -28,7 +28,7 @@ PARTS = {
     "messages": ("safe.messages",),
     "partners": ("safe.partners",),
     "streams": ("safe.streams.source", "safe.streams.sent"),
-    "grants": ("safe.grants",),
+    "grants": ("safe.grants", "granted"),
     "closes": ("whole",),
     "fates": ("over", "contacts"),
 }
