@@ -101,6 +101,13 @@ const SUBNET = {
             "Nothing. Its IMP refused the frame and acknowledged nothing, so the packet is still in its channel at IMP 1.",
         ],
     ],
+    "harvard-tells-lies": [
+        [
+            10,
+            "Harvard's IMP says that it is next to everybody. Does Utah's second message reach UCLA?",
+            "Not now: it goes to and fro between that IMP and a neighbour that believes it. Once the IMP is stopped, routes become right again, and it arrives.",
+        ],
+    ],
     "an-rfnm-arrives-three-times": [
         [
             13,

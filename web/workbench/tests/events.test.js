@@ -12,7 +12,7 @@ const RAW = ["raw = true", "[[imp]]", "id = 1", "hosts = 1", "%"];
 
 test("each event is of one kind, and scripts have those of theirs", () => {
     assert.deepEqual(eventsOf("carrier"), ["giveup", "hostdown", "hostup"]);
-    assert.equal(OF_CARRIERS.length, 15);
+    assert.equal(OF_CARRIERS.length, 16);
     assert.deepEqual(OF_RAW.filter((word) => !OF_WORLDS.includes(word)), ["out"]);
     assert.equal(new Set([...OF_RAW, ...OF_WORLDS]).size, Object.keys(EVENTS).length);
 });
